@@ -1,0 +1,24 @@
+-- "At most" is "subset" for kinds 1 and 2, and "<=" for kinds 3 and 4. Assumes nothing.
+use mathlib.Core.Logic.{_↔_}
+use mathlib.Core.Path.{_≡_}
+use Prim.Native.Nat.{ℕ, _≤_, max}
+use native.Mathlib.Omega.{arith}
+use Rattle.annotation.specs.Algebra.{AtMost}
+use Rattle.annotation.specs.Kinds.{algebra, Subset}
+use Rattle.annotation.proofs.Bitwise.{subset-or, or-subset}
+
+pub years-at-most : (a b : ℕ) → AtMost (algebra 1) a b ↔ Subset a b
+unfolding algebra
+years-at-most a b = (or-subset a b, subset-or a b)
+
+pub sheets-at-most : (a b : ℕ) → AtMost (algebra 2) a b ↔ Subset a b
+unfolding algebra
+sheets-at-most a b = (or-subset a b, subset-or a b)
+
+pub degree-at-most : (a b : ℕ) → AtMost (algebra 3) a b ↔ (a ≤ b)
+unfolding algebra
+degree-at-most a b = (λ h. omega arith, λ h. omega arith)
+
+pub strict-at-most : (a b : ℕ) → AtMost (algebra 4) a b ↔ (a ≤ b)
+unfolding algebra
+strict-at-most a b = (λ h. omega arith, λ h. omega arith)

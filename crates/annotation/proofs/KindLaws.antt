@@ -1,0 +1,52 @@
+-- `Laws` for each kind of annotation. Assumes nothing.
+use mathlib.Core.Path.{_≡_, refl, sym, ap, _∙_}
+use mathlib.Core.Bool.{Bool, true, false, cond}
+use Prim.Native.Nat.{ℕ, _+_, _≤_, _<_, _%_, min, max}
+use native.Mathlib.Omega.{arith}
+use lib.Dec.{eqb}
+use lib.Bits.{bitAnd, bitOr, and-comm, or-comm, and-zero-r, or-zero-r, or-self, or-lt, and-mask, and-le-l, and-le-r, or-add-and}
+use Rattle.annotation.specs.Algebra.{Algebra, Laws}
+use Rattle.annotation.specs.Kinds.{years, sheets, degree, strict, algebra}
+use Rattle.annotation.proofs.Bitwise.{and-assoc, or-assoc, and-over-or}
+
+and-all : (a : ℕ) → a ≤ 18446744073709551615 → bitAnd a 18446744073709551615 ≡ a
+and-all a h = and-mask a 64 ∙ omega arith
+
+pub years-laws : Laws years
+years-laws = record {
+  bottom-value = omega arith;
+  top-value = omega arith;
+  meet-value = λ a b va vb. omega (arith, and-le-l a b);
+  join-value = λ a b va vb. omega (arith, or-lt 64 a b (omega arith) (omega arith));
+  meet-comm = and-comm;
+  meet-assoc = λ a b c va vb vc. and-assoc a b c;
+  join-comm = or-comm;
+  join-assoc = or-assoc;
+  meet-join = λ a b c va vb vc. and-over-or a b c;
+  meet-bottom = λ a va. and-zero-r a;
+  meet-top = and-all;
+  join-bottom = or-zero-r;
+  join-top = λ a va. omega (arith, or-add-and a 18446744073709551615, and-all a va);
+  join-self = or-self;
+  join-grows = λ a b. omega (arith, or-add-and a b, and-le-r a b);
+  value-bound = λ a va. va;
+}
+
+pub sheets-laws : Laws sheets
+sheets-laws = years-laws
+
+pub degree-laws : Laws degree
+degree-laws = omega arith
+
+pub strict-laws : Laws strict
+strict-laws = omega arith
+
+laws-of : (y s d : Bool) → Laws (cond y years (cond s sheets (cond d degree strict)))
+laws-of true s d = years-laws
+laws-of false true d = sheets-laws
+laws-of false false true = degree-laws
+laws-of false false false = strict-laws
+
+pub laws : (kind : ℕ) → Laws (algebra kind)
+unfolding algebra
+laws kind = laws-of (eqb kind 1) (eqb kind 2) (eqb kind 3)

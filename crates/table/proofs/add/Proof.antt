@@ -1,0 +1,115 @@
+-- Refused by the table, by the triple, or as `put` finds room.
+use Rattle.table.specs.Rows.{lanes, row}
+use Rattle.table.proofs.Adds.{add-by-table, add-by-triple, added-to-sound, added-legal, add-by-put}
+use borrow.Author.Needs.{needs}
+use Rattle.table.proofs.add.Statement.{statement}
+use Rattle.table.proofs.add.Tie as tie
+
+check-requires : tie.Need-check-requires
+check-requires c κs = search needs
+
+same-length : tie.Need-same-length
+same-length c = search needs
+
+same-length-2 : tie.Need-same-length-2
+same-length-2 c = search needs
+
+same-length-3 : tie.Need-same-length-3
+same-length-3 c = search needs
+
+same-length-4 : tie.Need-same-length-4
+same-length-4 c = search needs
+
+returns : tie.Need-returns
+returns c =
+    let the-args = c .before .before .before .before .before .before .before .before .before .before .before .args in
+    let the-check = c .before .before .check in
+    let the-if1 = c .if1 in
+    add-by-table (the-args .kind) (row (the-args .s) (the-args .p) (the-args .o) (the-args .a)) (lanes (the-args .subj .now) (the-args .pred .now) (the-args .obj .now) (the-args .ann .now)) (the-args .count) (the-check .result) (the-check .ensures) (the-if1 .taken)
+
+triple-refusal-requires : tie.Need-triple-refusal-requires
+triple-refusal-requires c κs = search needs
+
+same-length-5 : tie.Need-same-length-5
+same-length-5 c = search needs
+
+same-length-6 : tie.Need-same-length-6
+same-length-6 c = search needs
+
+same-length-7 : tie.Need-same-length-7
+same-length-7 c = search needs
+
+same-length-8 : tie.Need-same-length-8
+same-length-8 c = search needs
+
+returns-2 : tie.Need-returns-2
+returns-2 c =
+    let the-args = c .before .before .before .before .before .before .before .before .before .before .before .before .before .args in
+    let the-check = c .before .before .before .before .check in
+    let the-if1 = c .before .before .if1 in
+    let the-triple-refusal = c .before .triple-refusal in
+    let the-if2 = c .if2 in
+    add-by-triple (the-args .kind) (row (the-args .s) (the-args .p) (the-args .o) (the-args .a)) (lanes (the-args .subj .now) (the-args .pred .now) (the-args .obj .now) (the-args .ann .now)) (the-args .count) (the-check .result) (the-check .ensures) (the-if1 .left) _ (the-triple-refusal .ensures) (the-if2 .taken)
+
+put-requires : tie.Need-put-requires
+put-requires c κs =
+    let the-args = c .before .before .before .before .before .before .before .before .before .before .before .before .before .before .before .before .before .args in
+    let the-check = c .before .before .before .before .before .before .before .before .check in
+    let the-if1 = c .before .before .before .before .before .before .if1 in
+    let the-triple-refusal = c .before .before .before .before .before .triple-refusal in
+    let the-if2 = c .before .before .before .before .if2 in
+    record {
+      sound = added-to-sound (the-args .kind) (row (the-args .s) (the-args .p) (the-args .o) (the-args .a)) (lanes (the-args .subj .now) (the-args .pred .now) (the-args .obj .now) (the-args .ann .now)) (the-args .count) (the-check .result) (the-check .ensures) (the-if1 .left);
+      legal = added-legal (the-args .kind) (row (the-args .s) (the-args .p) (the-args .o) (the-args .a)) (lanes (the-args .subj .now) (the-args .pred .now) (the-args .obj .now) (the-args .ann .now)) (the-args .count) (the-check .result) (the-check .ensures) (the-if1 .left) _ (the-triple-refusal .ensures) (the-if2 .left);
+    }
+
+room-number-requires : tie.Need-room-number-requires
+room-number-requires c κs = search needs
+
+same-length-9 : tie.Need-same-length-9
+same-length-9 c = search needs
+
+same-length-10 : tie.Need-same-length-10
+same-length-10 c = search needs
+
+same-length-11 : tie.Need-same-length-11
+same-length-11 c = search needs
+
+same-length-12 : tie.Need-same-length-12
+same-length-12 c = search needs
+
+returns-3 : tie.Need-returns-3
+returns-3 c =
+    let the-args = c .before .before .before .before .before .before .before .before .before .before .before .before .before .before .before .before .before .before .before .before .before .before .before .before .before .before .before .args in
+    let the-check = c .before .before .before .before .before .before .before .before .before .before .before .before .before .before .before .before .before .before .check in
+    let the-if1 = c .before .before .before .before .before .before .before .before .before .before .before .before .before .before .before .before .if1 in
+    let the-triple-refusal = c .before .before .before .before .before .before .before .before .before .before .before .before .before .before .before .triple-refusal in
+    let the-if2 = c .before .before .before .before .before .before .before .before .before .before .before .before .before .before .if2 in
+    let the-put = c .before .before .before .before .before .before .before .before .before .put in
+    let the-room-number = c .room-number in
+    add-by-put (the-args .kind) (row (the-args .s) (the-args .p) (the-args .o) (the-args .a)) (lanes (the-args .subj .now) (the-args .pred .now) (the-args .obj .now) (the-args .ann .now)) (the-args .count) (the-check .result) (the-check .ensures) (the-if1 .left) _ (the-triple-refusal .ensures) (the-if2 .left)
+    _ (the-put .result .full) (the-put .result .changed) _ _ (the-put .ensures) (the-room-number .ensures)
+
+pub add-spec : {M : Type 1} → statement M
+add-spec =
+    tie.close
+    (tie.spec
+    check-requires
+    same-length
+    same-length-2
+    same-length-3
+    same-length-4
+    returns
+    triple-refusal-requires
+    same-length-5
+    same-length-6
+    same-length-7
+    same-length-8
+    returns-2
+    put-requires
+    room-number-requires
+    same-length-9
+    same-length-10
+    same-length-11
+    same-length-12
+    returns-3)

@@ -1,0 +1,59 @@
+-- Where a key stands, or would go, in rows that ascend.
+use mathlib.Core.Path.{_≡_}
+use mathlib.Core.Bool.{Bool, true, false}
+use mathlib.Core.List.{List}
+use Prim.Native.Nat.{ℕ, suc, _-_, _≤_, _<_}
+use lib.ListN.{length}
+use Rattle.table.specs.Rows.{Lanes, keyAt}
+
+-- row i is within the three lanes
+pub record Within (subj pred obj : List ℕ) (i : ℕ) : Type 0 where
+  pub in-subj : i < length subj
+  pub in-pred : i < length pred
+  pub in-obj : i < length obj
+
+-- row i, and the first n rows, are within the four lanes
+pub record RowWithin (l : Lanes) (i : ℕ) : Type 0 where
+  pub in-subj : i < length (l .subj)
+  pub in-pred : i < length (l .pred)
+  pub in-obj : i < length (l .obj)
+  pub in-ann : i < length (l .ann)
+
+pub record RowsWithin (l : Lanes) (n : ℕ) : Type 0 where
+  pub in-subj : n ≤ length (l .subj)
+  pub in-pred : n ≤ length (l .pred)
+  pub in-obj : n ≤ length (l .obj)
+  pub in-ann : n ≤ length (l .ann)
+
+-- the first n rows are within the three lanes, and ascend
+pub record Ordered (subj pred obj : List ℕ) (n : ℕ) : Type 0 where
+  pub in-subj : n ≤ length subj
+  pub in-pred : n ≤ length pred
+  pub in-obj : n ≤ length obj
+  pub ascending : (i : ℕ) → suc i < n → keyAt subj pred obj i < keyAt subj pred obj (suc i)
+
+-- r is the first of n rows whose key is not below k, or n
+pub record Placed (subj pred obj : List ℕ) (n k r : ℕ) : Type 0 where
+  pub within : r ≤ n
+  pub before : (i : ℕ) → i < r → keyAt subj pred obj i < k
+  pub reached : r < n → k ≤ keyAt subj pred obj r
+
+-- whether row `at` is there and has the key k
+pub record Stands (subj pred obj : List ℕ) (n at k : ℕ) (r : Bool) : Type 0 where
+  pub there : r ≡ true → (at < n) × (k ≡ keyAt subj pred obj at)
+  pub missing : r ≡ false → at < n → k ≡ keyAt subj pred obj at → ⊥
+
+-- halving: what is left out below is below k, and what is left out above is not
+pub record Halving (subj pred obj : List ℕ) (n k low high : ℕ) : Type 0 where
+  pub ordered : Ordered subj pred obj n
+  pub some : low < high
+  pub within : high ≤ n
+  pub before : (i : ℕ) → i < low → keyAt subj pred obj i < k
+  pub reached : high < n → k ≤ keyAt subj pred obj high
+
+pub record Halved (subj pred obj : List ℕ) (n k low high low′ high′ : ℕ) : Type 0 where
+  pub kept : low′ ≤ high′
+  pub within : high′ ≤ n
+  pub fewer : high′ - low′ < high - low
+  pub before : (i : ℕ) → i < low′ → keyAt subj pred obj i < k
+  pub reached : high′ < n → k ≤ keyAt subj pred obj high′

@@ -1,0 +1,105 @@
+// A table: rows in four lent lanes and a count, sorted by subject, predicate, object.
+// Refused here: a kind (4), lanes that do not fit (11), no room (12), a count past the lanes (14), and rows (8, 9, 10, 15).
+ghost use mathlib.Core.Path.{_≡_};
+ghost use mathlib.Core.Bool.{cond};
+ghost use Rattle.term.specs.Refusal.{first};
+ghost use Rattle.table.specs.Rows.{row, lanes};
+ghost use Rattle.table.specs.Checks.{tableChecks};
+ghost use Rattle.table.specs.Adding.{Adding};
+
+pub mod judge;
+pub mod lane;
+pub mod places;
+pub mod put;
+pub mod rows;
+
+use term::refusal::Verdict;
+
+pub const LANES_UNFIT: u8 = 11;
+
+pub const NO_ROOM: u8 = 12;
+
+pub const COUNT_PAST_LANES: u8 = 14;
+
+pub struct Added {
+    pub number: u8,
+    pub place: usize,
+    pub count: usize,
+}
+
+// The table check: 0 where the table is sound.
+pub fn check(
+    kind: u8,
+    subj: &[u16],
+    pred: &[u16],
+    obj: &[u16],
+    ann: &[u64],
+    count: usize,
+) -> Verdict
+    ensures { λ r. ⌜ r ≡ first (tableChecks kind (lanes (now (subj .entry)) (now (pred .entry)) (now (obj .entry)) (now (ann .entry))) count) ⌝ }
+{
+    if annotation::kind_refusal(kind) > 0 {
+        return Verdict {
+            number: annotation::WRONG_KIND,
+            place: 0,
+        };
+    }
+    if judge::unfit(subj, pred, obj, ann) {
+        return Verdict {
+            number: LANES_UNFIT,
+            place: 0,
+        };
+    }
+    if subj.len() < count {
+        return Verdict {
+            number: COUNT_PAST_LANES,
+            place: 0,
+        };
+    }
+    judge::rows_verdict(kind, subj, pred, obj, ann, count)
+}
+
+// Adds a triple to a table: it joins the equal triple, or goes in at its place.
+pub fn add(
+    kind: u8,
+    subj: &mut [u16],
+    pred: &mut [u16],
+    obj: &mut [u16],
+    ann: &mut [u64],
+    count: usize,
+    s: u16,
+    p: u16,
+    o: u16,
+    a: u64,
+) -> Added
+    ensures { λ r. ⌜ Adding kind (row s p o a) (lanes (now (subj .entry)) (now (pred .entry)) (now (obj .entry)) (now (ann .entry))) count (lanes (now (subj .exit)) (now (pred .exit)) (now (obj .exit)) (now (ann .exit))) (r .number) (r .place) (r .count) ⌝ }
+{
+    let table = check(kind, subj, pred, obj, ann, count);
+    if table.number > 0 {
+        return Added {
+            number: table.number,
+            place: table.place,
+            count,
+        };
+    }
+    let number = judge::triple_refusal(kind, s, p, o, a);
+    if number > 0 {
+        return Added {
+            number,
+            place: 0,
+            count,
+        };
+    }
+    let done = put::put(kind, subj, pred, obj, ann, count, s, p, o, a);
+    Added {
+        number: room_number(done.full),
+        place: 0,
+        count: done.count,
+    }
+}
+
+fn room_number(full: bool) -> u8
+    ensures { λ r. ⌜ r ≡ cond full 12 0 ⌝ }
+{
+    if full { NO_ROOM } else { 0 }
+}

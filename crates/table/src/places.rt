@@ -1,0 +1,100 @@
+// Where a key stands in rows that ascend: by walking, for adding, and by halving, for finding.
+ghost use mathlib.Core.Path.{_≡_};
+ghost use Rattle.table.specs.Rows.{lanes, rowsOf, valueAt, triple};
+ghost use Rattle.table.specs.Sound.{Sound};
+ghost use Rattle.table.specs.Places.{Ordered, Placed, Stands, Halving, Halved};
+use crate::rows::key_at;
+use crate::rows::key_of;
+
+// The first row whose key is not below `key`, found by walking from the front.
+pub fn place(subj: &[u16], pred: &[u16], obj: &[u16], count: usize, key: u64) -> usize
+    requires { ⌜ Ordered (now subj) (now pred) (now obj) count ⌝ }
+    ensures { λ r. ⌜ Placed (now (subj .entry)) (now (pred .entry)) (now (obj .entry)) count key r ⌝ }
+{
+    let mut i = 0;
+    while i < count {
+        if key <= key_at(subj, pred, obj, i) {
+            return i;
+        }
+        i += 1;
+    }
+    i
+}
+
+// Whether the row at `at` is there and has the key.
+pub fn stands(subj: &[u16], pred: &[u16], obj: &[u16], count: usize, at: usize, key: u64) -> bool
+    requires { ⌜ Ordered (now subj) (now pred) (now obj) count ⌝ }
+    ensures { λ r. ⌜ Stands (now (subj .entry)) (now (pred .entry)) (now (obj .entry)) count at key r ⌝ }
+{
+    if at < count {
+        return key == key_at(subj, pred, obj, at);
+    }
+    false
+}
+
+// Rows low up to high are still in question.
+pub struct Between {
+    pub low: usize,
+    pub high: usize,
+}
+
+// One halving: the row in the middle tells which half to leave.
+fn halve(
+    subj: &[u16],
+    pred: &[u16],
+    obj: &[u16],
+    count: usize,
+    key: u64,
+    low: usize,
+    high: usize,
+) -> Between
+    requires { ⌜ Halving (now subj) (now pred) (now obj) count key low high ⌝ }
+    ensures { λ r. ⌜ Halved (now (subj .entry)) (now (pred .entry)) (now (obj .entry)) count key low high (r .low) (r .high) ⌝ }
+{
+    let middle = low + (high - low) / 2;
+    if key_at(subj, pred, obj, middle) < key {
+        return Between {
+            low: middle + 1,
+            high,
+        };
+    }
+    Between { low, high: middle }
+}
+
+// The first row whose key is not below `key`, found by halving.
+pub fn find(subj: &[u16], pred: &[u16], obj: &[u16], count: usize, key: u64) -> usize
+    requires { ⌜ Ordered (now subj) (now pred) (now obj) count ⌝ }
+    ensures { λ r. ⌜ Placed (now (subj .entry)) (now (pred .entry)) (now (obj .entry)) count key r ⌝ }
+{
+    let mut low = 0;
+    let mut high = count;
+    while low < high {
+        let next = halve(subj, pred, obj, count, key, low, high);
+        low = next.low;
+        high = next.high;
+    }
+    low
+}
+
+// The annotation of a triple, 0 where no row holds it.
+pub fn annotation_of(
+    kind: u8,
+    subj: &[u16],
+    pred: &[u16],
+    obj: &[u16],
+    ann: &[u64],
+    count: usize,
+    s: u16,
+    p: u16,
+    o: u16,
+) -> u64
+    requires { ⌜ Sound kind (lanes (now subj) (now pred) (now obj) (now ann)) count ⌝ }
+    ensures { λ r. ⌜ r ≡ valueAt (rowsOf (lanes (now (subj .entry)) (now (pred .entry)) (now (obj .entry)) (now (ann .entry))) count) (triple s p o) ⌝ }
+{
+    let key = key_of(s, p, o);
+    let at = find(subj, pred, obj, count, key);
+    if stands(subj, pred, obj, count, at, key) {
+        return ann[at];
+    }
+    0
+}

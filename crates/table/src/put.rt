@@ -1,0 +1,72 @@
+// Putting a legal row into a sound table.
+ghost use mathlib.Core.Path.{_≡_};
+ghost use Prim.Native.Nat.{_<_};
+ghost use lib.ListN.{length};
+ghost use Rattle.table.specs.Rows.{row, lanes};
+ghost use Rattle.table.specs.Putting.{JoinedAt, PutInto, Put};
+use crate::lane::open_u16;
+use crate::lane::open_u64;
+use crate::places::place;
+use crate::places::stands;
+use crate::rows::key_of;
+
+pub struct PutDone {
+    pub full: bool,
+    pub changed: bool,
+    pub count: usize,
+}
+
+// Joins a to the annotation at `at`, and says whether that changed it.
+fn join_at(kind: u8, ann: &mut [u64], at: usize, a: u64) -> bool
+    requires { ⌜ at < length (now ann) ⌝ }
+    ensures { λ r. ⌜ JoinedAt kind (now (ann .entry)) at a (now (ann .exit)) r ⌝ }
+{
+    let old = ann[at];
+    let new = annotation::join(kind, old, a);
+    ann[at] = new;
+    new != old
+}
+
+// Joins the row to the row of its key, or puts it in at its place, or says that there is no room.
+pub fn put(
+    kind: u8,
+    subj: &mut [u16],
+    pred: &mut [u16],
+    obj: &mut [u16],
+    ann: &mut [u64],
+    count: usize,
+    s: u16,
+    p: u16,
+    o: u16,
+    a: u64,
+) -> PutDone
+    requires { ⌜ PutInto kind (row s p o a) (lanes (now subj) (now pred) (now obj) (now ann)) count ⌝ }
+    ensures { λ r. ⌜ Put kind (row s p o a) (lanes (now (subj .entry)) (now (pred .entry)) (now (obj .entry)) (now (ann .entry))) count (lanes (now (subj .exit)) (now (pred .exit)) (now (obj .exit)) (now (ann .exit))) (r .full) (r .changed) (r .count) ⌝ }
+{
+    let key = key_of(s, p, o);
+    let at = place(subj, pred, obj, count, key);
+    if stands(subj, pred, obj, count, at, key) {
+        let changed = join_at(kind, ann, at, a);
+        return PutDone {
+            full: false,
+            changed,
+            count,
+        };
+    }
+    if count < subj.len() {
+        open_u16(subj, at, count, s);
+        open_u16(pred, at, count, p);
+        open_u16(obj, at, count, o);
+        open_u64(ann, at, count, a);
+        return PutDone {
+            full: false,
+            changed: true,
+            count: count + 1,
+        };
+    }
+    PutDone {
+        full: true,
+        changed: false,
+        count,
+    }
+}

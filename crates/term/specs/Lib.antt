@@ -1,0 +1,3 @@
+-- The definitions that the contracts of `term`, and of every crate above it, cite.
+pub mod Refusal
+pub mod Term

@@ -1,0 +1,48 @@
+-- Terms: sort, number, and which are legal.
+use mathlib.Core.Bool.{Bool, not}
+use mathlib.Core.List.{List, [], _∷_}
+use Prim.Native.Nat.{ℕ, _/_, _%_}
+use lib.Dec.{eqb, leb}
+use Rattle.term.specs.Refusal.{Check, refuse}
+
+-- "A term is a 16-bit number. Its top two bits are its sort"
+abbrev pub sortOf : ℕ → ℕ
+sortOf t = t / 16384
+
+abbrev pub numberOf : ℕ → ℕ
+numberOf t = t % 16384
+
+-- "0 a name, 1 a blank, 2 a literal, 3 never legal"; "Subject and object are of sorts 0 to 2", "a predicate is a name"
+abbrev pub isLegalTerm : ℕ → Bool
+isLegalTerm t = leb (sortOf t) 2
+
+abbrev pub isName : ℕ → Bool
+isName t = eqb (sortOf t) 0
+
+-- "65,535 therefore marks 'unbound'"
+abbrev pub unbound : ℕ
+unbound = 65535
+
+-- "Names 0 to 4 are sp, sc, type, dom, range"
+abbrev pub sp : ℕ
+sp = 0
+
+abbrev pub sc : ℕ
+sc = 1
+
+abbrev pub type : ℕ
+type = 2
+
+abbrev pub dom : ℕ
+dom = 3
+
+abbrev pub range : ℕ
+range = 4
+
+-- "8: sort 3"
+abbrev pub termChecks : ℕ → ℕ → List Check
+termChecks t place = refuse (not (isLegalTerm t)) 8 place ∷ []
+
+-- "8, 9: sort 3; predicate not a name"
+abbrev pub predicateChecks : ℕ → ℕ → List Check
+predicateChecks t place = refuse (not (isLegalTerm t)) 8 place ∷ refuse (not (isName t)) 9 place ∷ []

@@ -1,0 +1,31 @@
+//! The proved library held against the model: the same input to both, and every number, place,
+//! count and lane compared.
+//!
+//! A case is dealt from one seed, so a difference is found again by its seed. It is also printed
+//! with its whole input, and goes to `stored` once it is settled.
+
+pub mod calls;
+pub mod stored;
+pub mod tables;
+
+/// What differed, with the input it differed on.
+pub type Difference = String;
+
+/// Runs one case of one kind from its seed.
+pub type Case = fn(u64) -> Result<(), Difference>;
+
+/// Every kind of case, by name.
+pub const CASES: [(&str, Case); 2] = [("check", tables::check), ("add", tables::add)];
+
+/// Compares what the two gave; `input` is only put together where they differ.
+pub fn same<T: PartialEq + std::fmt::Debug>(
+    what: &str,
+    proved: &T,
+    model: &T,
+    input: impl FnOnce() -> String,
+) -> Result<(), Difference> {
+    if proved == model {
+        return Ok(());
+    }
+    Err(format!("{what}\n  proved: {proved:?}\n  model:  {model:?}\n  input:  {}", input()))
+}
