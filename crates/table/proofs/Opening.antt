@@ -1,12 +1,13 @@
--- A lane with room made in it: the laws of `opened`. Assumes nothing.
+-- A lane with room made in it, and a lane zeroed: the laws that their loops turn on. Assumes nothing.
 use mathlib.Core.Path.{_≡_, refl, sym, ap, _∙_}
-use mathlib.Core.List.{List, [], _∷_, _++_}
+use mathlib.Core.List.{List, [], _∷_, _++_, append-nil}
 use Prim.Native.Nat.{ℕ, zero, suc, _+_, _-_, _≤_, _<_}
 use native.Mathlib.Numerals.{add-one}
 use native.Mathlib.Nat.{add-suc}
 use native.Mathlib.Omega.{arith}
-use lib.ListN.{length, getD, take, drop, set, length-append, length-take, length-drop, List·getD-append}
-use lib.Seq.{set-at, getD-at, take-suc, drop-cons, append-snoc, split-at, length-take-le, getD-append-add, getD-take, getD-drop}
+use borrow.Author.Fill.{fill-more}
+use lib.ListN.{length, getD, take, drop, set, replicate, length-append, length-take, length-drop, List·getD-append}
+use lib.Seq.{drop-length, set-at, getD-at, take-suc, drop-cons, append-snoc, split-at, length-take-le, getD-append-add, getD-take, getD-drop}
 use Rattle.table.specs.Putting.{opened}
 
 pub opened-start : (n : ℕ) (l : List ℕ) → n < length l → opened n n (getD l n 0) l ≡ l
@@ -83,3 +84,12 @@ shift-step lane l (suc j) n h g k e =
 pub shift-end : (lane l : List ℕ) (i at n v : ℕ) → i ≡ at → at ≤ n → n < length l → lane ≡ opened i n (getD l i 0) l
     → set lane at v ≡ opened at n v l
 shift-end lane l i at n v p h k e = rw (e, p) (opened-set at n (getD l at 0) v l (omega arith))
+
+-- a lane zeroed from the front: a turn of the loop, and its end
+pub zero-step : (lane l : List ℕ) (i : ℕ) → i < length l → lane ≡ replicate i 0 ++ drop i l → set lane i 0 ≡ replicate (i + 1) 0 ++ drop (i + 1) l
+zero-step lane l i h e = rw e (fill-more i 0 l h)
+
+pub zero-end : (lane l : List ℕ) (i : ℕ) → length l ≤ i → i ≤ length l → lane ≡ replicate i 0 ++ drop i l → lane ≡ replicate (length l) 0
+zero-end lane l i h g e =
+    let ei : i ≡ length l = omega arith in
+    e ∙ rw (ei, drop-length l) (append-nil {A = ℕ} (replicate (length l) 0))

@@ -101,6 +101,7 @@ module _ (kind : ℕ) (S P O A : List ℕ) (n s p o a k at : ℕ)
 
     pub put-joined : Put kind r l n m false c n
     put-joined = record {
+      as-long = refl;
       full-is = sym (le-ltb (length S) _ (rw (← rows-joined, tab-length n (rowAt m)) (pre .sound .within)));
       full-still = λ z. absurd (false≢true z);
       lanes-are = λ z. laid-joined ∙ ap (λ (R : List Row). laid R l) rows-joined;
@@ -110,6 +111,7 @@ module _ (kind : ℕ) (S P O A : List ℕ) (n s p o a k at : ℕ)
       grows = λ z.
           let ne : getD A′ at 0 ≡ getD A at 0 → ⊥ = λ w. me .other z (sym here ∙ w) in
           total-set at n (rowAt l) (rowAt m) ht (λ i q w. other i w) (omega (arith, here, laws kind .join-grows (getD A at 0) a, ne));
+      rest = λ i q. other i (λ w. omega arith);
       sound = list-sound kind l m n n (pre .sound) refl refl refl long-a (pre .sound .within) (rw rows-joined with-sound);
     }
 
@@ -163,6 +165,7 @@ module _ (kind : ℕ) (S P O A : List ℕ) (n s p o a k at : ℕ)
       put-in =
           let w : at ≤ n = pl .within in
           record {
+            as-long = length-opened at n s S w room;
             full-is = sym (le-ltb (length S) _ (rw (← rows-put, tab-length (n + 1) (rowAt after)) (omega arith)));
             full-still = λ z. absurd (false≢true z);
             lanes-are = λ z. laid-put ∙ ap (λ (R : List Row). laid R l) rows-put;
@@ -170,6 +173,7 @@ module _ (kind : ℕ) (S P O A : List ℕ) (n s p o a k at : ℕ)
             count-is = λ z. sym (tab-length (n + 1) (rowAt after)) ∙ ap length rows-put;
             still = λ z. absurd (true≢false z);
             grows = λ z. rw (add-one n) (omega (arith, total-insert r at n (rowAt l) (rowAt after) w g-before g-at g-moved, legal-value a kind (pre .legal .annotation)));
+            rest = λ i q. g-past i (omega arith);
             sound = list-sound kind l after n (n + 1) (pre .sound)
                 (length-opened at n s S w room) (length-opened at n p P w hP) (length-opened at n o O w hO) (length-opened at n a A w hA)
                 (omega (arith, length-opened at n s S w room)) (rw rows-put with-sound);
@@ -177,6 +181,7 @@ module _ (kind : ℕ) (S P O A : List ℕ) (n s p o a k at : ℕ)
 
     pub put-full : length S ≤ n → Put kind r l n l true false n
     put-full h = record {
+      as-long = refl;
       full-is = sym (lt-ltb (length S) _ (rw (add-long (algebra kind) r at n (rowAt l) (pl .within) low high) (omega arith)));
       full-still = λ z. refl;
       lanes-are = λ z. absurd (true≢false z);
@@ -184,5 +189,6 @@ module _ (kind : ℕ) (S P O A : List ℕ) (n s p o a k at : ℕ)
       count-is = λ z. absurd (true≢false z);
       still = λ z. (refl, refl);
       grows = λ z. absurd (false≢true z);
+      rest = λ i q. refl;
       sound = pre .sound;
     }

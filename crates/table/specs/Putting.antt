@@ -2,11 +2,11 @@
 use mathlib.Core.Path.{_≡_}
 use mathlib.Core.Bool.{Bool, true, false}
 use mathlib.Core.List.{List, _∷_, _++_}
-use Prim.Native.Nat.{ℕ, _+_, _-_, _<_}
+use Prim.Native.Nat.{ℕ, _+_, _-_, _≤_, _<_}
 use lib.ListN.{length, getD, set, take, drop}
 use lib.Dec.{ltb}
 use Rattle.annotation.specs.Kinds.{algebra}
-use Rattle.table.specs.Rows.{Row, Lanes, rowsOf, laid, total}
+use Rattle.table.specs.Rows.{Row, Lanes, rowAt, rowsOf, laid, total}
 use Rattle.table.specs.Sound.{Sound, LegalRow}
 use Rattle.table.specs.Adding.{rowsWith}
 
@@ -26,6 +26,7 @@ pub record PutInto (kind : ℕ) (r : Row) (l : Lanes) (n : ℕ) : Type 0 where
 
 -- full: the rows with r do not fit the lanes, and nothing is changed; else the lanes hold them
 pub record Put (kind : ℕ) (r : Row) (l : Lanes) (n : ℕ) (m : Lanes) (full changed : Bool) (n′ : ℕ) : Type 0 where
+  pub as-long : length (m .subj) ≡ length (l .subj)
   pub full-is : full ≡ ltb (length (l .subj)) (length (rowsWith kind r l n))
   pub full-still : full ≡ true → changed ≡ false
   pub lanes-are : full ≡ false → m ≡ laid (rowsWith kind r l n) l
@@ -33,4 +34,5 @@ pub record Put (kind : ℕ) (r : Row) (l : Lanes) (n : ℕ) (m : Lanes) (full ch
   pub count-is : full ≡ false → n′ ≡ length (rowsWith kind r l n)
   pub still : changed ≡ false → (m ≡ l) × (n′ ≡ n)
   pub grows : changed ≡ true → total (rowsOf l n) < total (rowsOf m n′)
+  pub rest : (i : ℕ) → n′ ≤ i → rowAt m i ≡ rowAt l i
   pub sound : Sound kind m n′

@@ -2,7 +2,7 @@
 use mathlib.Core.Bool.{Bool, cond, _&&_}
 use mathlib.Core.List.{List, [], _∷_, _++_, map}
 use Prim.Native.Nat.{ℕ, zero, suc, _+_, _*_}
-use lib.ListN.{length, getD, drop}
+use lib.ListN.{length, getD, drop, replicate}
 use lib.Dec.{ltb, eqb}
 use Rattle.annotation.specs.Algebra.{Algebra}
 
@@ -64,6 +64,19 @@ laid rows l =
     (map (λ (r : Row). r .p) rows ++ drop (length rows) (l .pred))
     (map (λ (r : Row). r .o) rows ++ drop (length rows) (l .obj))
     (map (λ (r : Row). r .a) rows ++ drop (length rows) (l .ann))
+
+-- lanes as long, all zero
+abbrev pub zeroed : Lanes → Lanes
+zeroed l =
+    lanes
+    (replicate (length (l .subj)) 0)
+    (replicate (length (l .pred)) 0)
+    (replicate (length (l .obj)) 0)
+    (replicate (length (l .ann)) 0)
+
+-- "rows past the count are all zero"
+abbrev pub filled : List Row → Lanes → Lanes
+filled rows l = laid rows (zeroed l)
 
 -- x, with the annotation of r joined to its own
 abbrev pub joined : Algebra → Row → Row → Row

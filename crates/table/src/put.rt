@@ -2,13 +2,25 @@
 ghost use mathlib.Core.Path.{_≡_};
 ghost use Prim.Native.Nat.{_<_};
 ghost use lib.ListN.{length};
-ghost use Rattle.table.specs.Rows.{row, lanes};
+ghost use Rattle.table.specs.Rows.{row, lanes, zeroed};
 ghost use Rattle.table.specs.Putting.{JoinedAt, PutInto, Put};
 use crate::lane::open_u16;
 use crate::lane::open_u64;
+use crate::lane::zero_u16;
+use crate::lane::zero_u64;
 use crate::places::place;
 use crate::places::stands;
 use crate::rows::key_of;
+
+// All four lanes zeroed.
+pub fn wipe(subj: &mut [u16], pred: &mut [u16], obj: &mut [u16], ann: &mut [u64])
+    ensures { λ _. ⌜ lanes (now (subj .exit)) (now (pred .exit)) (now (obj .exit)) (now (ann .exit)) ≡ zeroed (lanes (now (subj .entry)) (now (pred .entry)) (now (obj .entry)) (now (ann .entry))) ⌝ }
+{
+    zero_u16(subj);
+    zero_u16(pred);
+    zero_u16(obj);
+    zero_u64(ann);
+}
 
 pub struct PutDone {
     pub full: bool,
