@@ -1,0 +1,30 @@
+-- High half and low half.
+use borrow.Author.Needs.{needs}
+use Rattle.field.specs.Numbers.{eightBytes, fourBytes}
+use Rattle.field.proofs.Writing.{length-four, written-both}
+use Rattle.field.proofs.number.put_eight.Statement.{statement}
+use Rattle.field.proofs.number.put_eight.Tie as tie
+
+put-four-requires : tie.Need-put-four-requires
+put-four-requires c κs = search needs
+
+add-put-four : tie.Need-add-put-four
+add-put-four c = search needs
+
+put-four-requires-2 : tie.Need-put-four-requires-2
+put-four-requires-2 c κs = search needs
+
+same-length : tie.Need-same-length
+same-length c = search needs
+
+returns : tie.Need-returns
+unfolding eightBytes
+returns c =
+    let the-args = c .before .before .before .before .before .before .before .before .before .args in
+    let the-put-four = c .before .before .before .before .before .before .put-four in
+    let the-put-four2 = c .before .before .put-four2 in
+    written-both (the-args .bytes .now) _ _ (the-args .at) 4 (fourBytes _) (fourBytes _) (length-four _) (rw (length-four _) (search needs)) (the-put-four .ensures) (the-put-four2 .ensures)
+
+pub put-eight-spec : {M : Type 1} → statement M
+put-eight-spec =
+    tie.close (tie.spec put-four-requires add-put-four put-four-requires-2 same-length returns)

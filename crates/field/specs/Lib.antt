@@ -1,0 +1,3 @@
+-- The definitions that the contracts of `field`, and of books and questions above it, cite.
+pub mod Numbers
+pub mod Fields

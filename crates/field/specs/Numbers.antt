@@ -1,0 +1,26 @@
+-- Numbers in bytes, "high byte first", and bytes of numbers.
+use mathlib.Core.List.{List, [], _∷_, _++_}
+use Prim.Native.Nat.{ℕ, _+_, _*_, _/_, _%_}
+use lib.ListN.{length, getD, take, drop}
+
+unfoldable pub twoAt : List ℕ → ℕ → ℕ
+twoAt b at = getD b at 0 * 256 + getD b (at + 1) 0
+
+unfoldable pub fourAt : List ℕ → ℕ → ℕ
+fourAt b at = twoAt b at * 65536 + twoAt b (at + 2)
+
+unfoldable pub eightAt : List ℕ → ℕ → ℕ
+eightAt b at = fourAt b at * 4294967296 + fourAt b (at + 4)
+
+unfoldable pub twoBytes : ℕ → List ℕ
+twoBytes n = n / 256 % 256 ∷ n % 256 ∷ []
+
+unfoldable pub fourBytes : ℕ → List ℕ
+fourBytes n = twoBytes (n / 65536 % 65536) ++ twoBytes (n % 65536)
+
+unfoldable pub eightBytes : ℕ → List ℕ
+eightBytes n = fourBytes (n / 4294967296 % 4294967296) ++ fourBytes (n % 4294967296)
+
+-- bytes b with the bytes v written over them from `at` on
+unfoldable pub written : List ℕ → ℕ → List ℕ → List ℕ
+written b at v = take at b ++ v ++ drop (at + length v) b

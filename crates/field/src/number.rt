@@ -1,0 +1,69 @@
+// Numbers of 16, 32 and 64 bits in bytes, high byte first: read, and written.
+ghost use mathlib.Core.Path.{_≡_};
+ghost use Prim.Native.Nat.{_+_, _≤_, _<_};
+ghost use lib.ListN.{length};
+ghost use Rattle.field.specs.Numbers.{twoAt, fourAt, eightAt, twoBytes, fourBytes, eightBytes, written};
+
+fn wide(byte: u8) -> u64
+    ensures { λ r. ⌜ (r ≡ byte) × (r < 256) ⌝ }
+{
+    byte as u64
+}
+
+fn pair(bytes: &[u8], at: usize) -> u64
+    requires { ⌜ at + 2 ≤ length (now bytes) ⌝ }
+    ensures { λ r. ⌜ (r ≡ twoAt (now (bytes .entry)) at) × (r < 65536) ⌝ }
+{
+    let high = wide(bytes[at]);
+    let low = wide(bytes[at + 1]);
+    high * 256 + low
+}
+
+pub fn two(bytes: &[u8], at: usize) -> u16
+    requires { ⌜ at + 2 ≤ length (now bytes) ⌝ }
+    ensures { λ r. ⌜ r ≡ twoAt (now (bytes .entry)) at ⌝ }
+{
+    pair(bytes, at) as u16
+}
+
+fn four(bytes: &[u8], at: usize) -> u64
+    requires { ⌜ at + 4 ≤ length (now bytes) ⌝ }
+    ensures { λ r. ⌜ (r ≡ fourAt (now (bytes .entry)) at) × (r < 4294967296) ⌝ }
+{
+    let high = pair(bytes, at);
+    let low = pair(bytes, at + 2);
+    high * 65536 + low
+}
+
+pub fn eight(bytes: &[u8], at: usize) -> u64
+    requires { ⌜ at + 8 ≤ length (now bytes) ⌝ }
+    ensures { λ r. ⌜ r ≡ eightAt (now (bytes .entry)) at ⌝ }
+{
+    let high = four(bytes, at);
+    let low = four(bytes, at + 4);
+    high * 4294967296 + low
+}
+
+pub fn put_two(bytes: &mut [u8], at: usize, n: u64)
+    requires { ⌜ at + 2 ≤ length (now bytes) ⌝ }
+    ensures { λ _. ⌜ now (bytes .exit) ≡ written (now (bytes .entry)) at (twoBytes n) ⌝ }
+{
+    bytes[at] = (n / 256 % 256) as u8;
+    bytes[at + 1] = (n % 256) as u8;
+}
+
+fn put_four(bytes: &mut [u8], at: usize, n: u64)
+    requires { ⌜ at + 4 ≤ length (now bytes) ⌝ }
+    ensures { λ _. ⌜ now (bytes .exit) ≡ written (now (bytes .entry)) at (fourBytes n) ⌝ }
+{
+    put_two(bytes, at, n / 65536 % 65536);
+    put_two(bytes, at + 2, n % 65536);
+}
+
+pub fn put_eight(bytes: &mut [u8], at: usize, n: u64)
+    requires { ⌜ at + 8 ≤ length (now bytes) ⌝ }
+    ensures { λ _. ⌜ now (bytes .exit) ≡ written (now (bytes .entry)) at (eightBytes n) ⌝ }
+{
+    put_four(bytes, at, n / 4294967296 % 4294967296);
+    put_four(bytes, at + 4, n % 4294967296);
+}
