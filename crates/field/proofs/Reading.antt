@@ -1,12 +1,13 @@
 -- What `fieldAt` is, case by case as the code meets it. Assumes nothing.
 use mathlib.Core.Path.{_≡_, refl, sym, ap, _∙_}
-use mathlib.Core.Bool.{Bool, true, false, _||_}
+use mathlib.Core.Bool.{Bool, true, false, cond, _||_, true≢false}
 use mathlib.Core.List.{List}
 use Prim.Native.Nat.{ℕ, _+_, _-_, _≤_, _<_}
 use native.Mathlib.Omega.{arith}
 use lib.ListN.{length, getD}
 use lib.Dec.{leb, ltb}
-use borrow.Author.Tests.{le-leb, lt-leb, lt-ltb, le-ltb}
+use borrow.Author.Tests.{le-leb, lt-leb, lt-ltb, le-ltb, leb-true, leb-false, ltb-false}
+use Rattle.field.specs.declared.Field.{Field}
 use Rattle.field.specs.declared.Field.the-variants.{End, Cut, Whole}
 use Rattle.field.specs.Numbers.{twoAt}
 use Rattle.field.specs.Fields.{fieldAt, isCut, tagAt, sizeAt}
@@ -35,3 +36,53 @@ module _ (b : List ℕ) (at : ℕ) where
       unfolding fieldAt
       field-whole h =
           rw (lt-leb (length b) at some, le-ltb (length b) (at + 3) (omega arith), le-ltb (length b) (at + 3 + sizeAt b at) (rw (← e) (omega arith)), e) refl
+
+-- and what each case says of the bytes
+abbrev ends : Field → ℕ
+ends End = 0
+ends Cut = 1
+ends (Whole t s) = 2
+
+pub record WholeField (b : List ℕ) (at tag size : ℕ) : Type 0 where
+  pub some : at < length b
+  pub not-cut : isCut b at ≡ false
+  pub fits : at + 3 + size ≤ length b
+  pub tag-is : tag ≡ tagAt b at
+  pub size-is : size ≡ sizeAt b at
+
+module _ (b : List ℕ) (at : ℕ) where
+  end-of : (p q : Bool) → leb (length b) at ≡ p → End ≡ cond p End (cond q Cut (Whole (tagAt b at) (sizeAt b at))) → length b ≤ at
+  end-of true q e h = leb-true (length b) at e
+  end-of false true e h = absurd (let z : _≡_ {A = ℕ} 0 1 = ap ends h in omega arith)
+  end-of false false e h = absurd (let z : _≡_ {A = ℕ} 0 2 = ap ends h in omega arith)
+
+  pub is-end : End ≡ fieldAt b at → length b ≤ at
+  unfolding fieldAt
+  is-end h = end-of (leb (length b) at) (isCut b at) refl h
+
+  cut-of : (p q : Bool) → leb (length b) at ≡ p → isCut b at ≡ q → Cut ≡ cond p End (cond q Cut (Whole (tagAt b at) (sizeAt b at)))
+      → (at < length b) × (isCut b at ≡ true)
+  cut-of true q e f h = absurd (let z : _≡_ {A = ℕ} 1 0 = ap ends h in omega arith)
+  cut-of false true e f h = (leb-false (length b) at e, f)
+  cut-of false false e f h = absurd (let z : _≡_ {A = ℕ} 1 2 = ap ends h in omega arith)
+
+  pub is-cut : Cut ≡ fieldAt b at → (at < length b) × (isCut b at ≡ true)
+  unfolding fieldAt
+  is-cut h = cut-of (leb (length b) at) (isCut b at) refl refl h
+
+  neither-cut : (u v : Bool) → u || v ≡ false → v ≡ false
+  neither-cut true v h = absurd (true≢false h)
+  neither-cut false v h = h
+
+  whole-of : (p q : Bool) (tag size : ℕ) → leb (length b) at ≡ p → isCut b at ≡ q
+      → Whole tag size ≡ cond p End (cond q Cut (Whole (tagAt b at) (sizeAt b at))) → WholeField b at tag size
+  whole-of true q tag size e f h = absurd (let z : _≡_ {A = ℕ} 2 0 = ap ends h in omega arith)
+  whole-of false true tag size e f h = absurd (let z : _≡_ {A = ℕ} 2 1 = ap ends h in omega arith)
+  whole-of false false tag size e f h =
+      let s : size ≡ sizeAt b at = cc in
+      let fits = ltb-false (length b) (at + 3 + sizeAt b at) (neither-cut (ltb (length b) (at + 3)) (ltb (length b) (at + 3 + sizeAt b at)) f) in
+      record { some = leb-false (length b) at e; not-cut = f; fits = rw s fits; tag-is = cc; size-is = s }
+
+  pub is-whole : (tag size : ℕ) → Whole tag size ≡ fieldAt b at → WholeField b at tag size
+  unfolding fieldAt
+  is-whole tag size h = whole-of (leb (length b) at) (isCut b at) tag size refl refl h

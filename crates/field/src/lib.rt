@@ -4,6 +4,7 @@ ghost use mathlib.Core.Path.{_≡_};
 ghost use Rattle.field.specs.Fields.{fieldAt};
 
 pub mod number;
+pub mod reader;
 
 // The three bytes of tag and length that every field begins with.
 pub const FRONT: usize = 3;

@@ -11,7 +11,7 @@ use borrow.Author.Tests.{lt-ltb, le-ltb, lt-leb, le-leb}
 use native.Mathlib.Omega.{arith}
 use Rattle.term.specs.Refusal.{Check, refuse, verdict, done, first}
 use Rattle.term.specs.Term.{isLegalTerm, isName, termChecks, predicateChecks}
-use Rattle.term.proofs.Firsts.{Numbered, numbered-append, AllAt, first-stops, first-clear, first-place, first-holds, first-passes}
+use Rattle.term.proofs.Firsts.{Numbered, numbered-append, AllAt, first-stops, first-clear, first-place, first-holds, first-passes, number-alike}
 use Rattle.term.specs.declared.refusal.Verdict.{Verdict}
 use Rattle.annotation.specs.Kinds.{isLegal, kindChecks, annotationChecks}
 use Rattle.table.specs.Rows.{Row, Lanes, rowAt, keyAt}
@@ -72,17 +72,8 @@ module _ (kind : ℕ) (r : Row) where
   triple-by-annotation n k hs ho e h ea = ea ∙ rw (hs, ho) (past-predicate (isLegalTerm (r .p)) (isName (r .p)) _ (rw (← e) h))
 
 -- a triple's number is the same at every place
-three : (p : ℕ) (a b c : Bool) → cond a (verdict 8 0) (cond b (verdict 9 0) (cond c (verdict 10 0) done)) .number
-    ≡ cond a (verdict 8 p) (cond b (verdict 9 p) (cond c (verdict 10 p) done)) .number
-three p true b c = refl
-three p false true c = refl
-three p false false true = refl
-three p false false false = refl
-
 pub triple-anywhere : (kind : ℕ) (r : Row) (p : ℕ) → first (tripleChecks kind r 0) .number ≡ first (tripleChecks kind r p) .number
-unfolding first
-triple-anywhere kind r p =
-    three p (not (isLegalTerm (r .s) && (isLegalTerm (r .p) && isLegalTerm (r .o)))) (not (isName (r .p))) (not (isLegal kind (r .a)))
+triple-anywhere kind r p = number-alike (tripleChecks kind r 0) (tripleChecks kind r p) ((refl, refl), ((refl, refl), ((refl, refl), tt)))
 
 pub triple-at : (kind : ℕ) (r : Row) (p : ℕ) → AllAt p (tripleChecks kind r p)
 triple-at kind r p = (refl, (refl, (refl, tt)))

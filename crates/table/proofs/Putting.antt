@@ -102,6 +102,7 @@ module _ (kind : ℕ) (S P O A : List ℕ) (n s p o a k at : ℕ)
     pub put-joined : Put kind r l n m false c n
     put-joined = record {
       as-long = refl;
+      more = omega arith;
       full-is = sym (le-ltb (length S) _ (rw (← rows-joined, tab-length n (rowAt m)) (pre .sound .within)));
       full-still = λ z. absurd (false≢true z);
       lanes-are = λ z. laid-joined ∙ ap (λ (R : List Row). laid R l) rows-joined;
@@ -166,6 +167,7 @@ module _ (kind : ℕ) (S P O A : List ℕ) (n s p o a k at : ℕ)
           let w : at ≤ n = pl .within in
           record {
             as-long = length-opened at n s S w room;
+            more = omega arith;
             full-is = sym (le-ltb (length S) _ (rw (← rows-put, tab-length (n + 1) (rowAt after)) (omega arith)));
             full-still = λ z. absurd (false≢true z);
             lanes-are = λ z. laid-put ∙ ap (λ (R : List Row). laid R l) rows-put;
@@ -182,6 +184,7 @@ module _ (kind : ℕ) (S P O A : List ℕ) (n s p o a k at : ℕ)
     pub put-full : length S ≤ n → Put kind r l n l true false n
     put-full h = record {
       as-long = refl;
+      more = omega arith;
       full-is = sym (lt-ltb (length S) _ (rw (add-long (algebra kind) r at n (rowAt l) (pl .within) low high) (omega arith)));
       full-still = λ z. refl;
       lanes-are = λ z. absurd (true≢false z);

@@ -17,7 +17,7 @@ use Rattle.table.specs.Sound.{LegalRow, Sound, Ascending, AllLegal, Soun
 use Rattle.table.specs.Places.{Ordered, RowsWithin}
 use Rattle.table.proofs.Ordering.{Tri, less, same, more, tri, ascending-tab, tab-ascending}
 
-both : (u v : Bool) → u && v ≡ true → (u ≡ true) × (v ≡ true)
+pub both : (u v : Bool) → u && v ≡ true → (u ≡ true) × (v ≡ true)
 both true v h = (refl, h)
 both false v h = absurd (true≢false (sym h))
 

@@ -27,6 +27,7 @@ pub record PutInto (kind : ℕ) (r : Row) (l : Lanes) (n : ℕ) : Type 0 where
 -- full: the rows with r do not fit the lanes, and nothing is changed; else the lanes hold them
 pub record Put (kind : ℕ) (r : Row) (l : Lanes) (n : ℕ) (m : Lanes) (full changed : Bool) (n′ : ℕ) : Type 0 where
   pub as-long : length (m .subj) ≡ length (l .subj)
+  pub more : n ≤ n′
   pub full-is : full ≡ ltb (length (l .subj)) (length (rowsWith kind r l n))
   pub full-still : full ≡ true → changed ≡ false
   pub lanes-are : full ≡ false → m ≡ laid (rowsWith kind r l n) l

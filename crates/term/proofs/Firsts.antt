@@ -2,7 +2,7 @@
 use mathlib.Core.Path.{_≡_, refl, sym, ap, _∙_}
 use mathlib.Core.Bool.{Bool, true, false, cond}
 use mathlib.Core.List.{List, [], _∷_, _++_}
-use Prim.Native.Nat.{ℕ, zero, suc, _<_}
+use Prim.Native.Nat.{ℕ, zero, suc, _≤_, _<_}
 use native.Mathlib.Omega.{arith}
 use Rattle.term.specs.Refusal.{Check, refuse, verdict, done, first}
 use Rattle.term.specs.declared.refusal.Verdict.{Verdict}
@@ -90,3 +90,33 @@ first-left cs ds e = go (first cs .number) refl
     go : (k : ℕ) → first cs .number ≡ k → first cs .number ≡ 0
     go zero q = q
     go (suc k) q = absurd (let s = first-stops cs ds (omega arith) in omega (arith, ap (λ (v : Verdict). v .number) s))
+
+-- the number alone: it stops at checks that give one, and passes those that give none
+pub number-stops : (n : ℕ) (cs ds : List Check) → n ≡ first cs .number → 0 < n → n ≡ first (cs ++ ds) .number
+number-stops n cs ds e h = e ∙ ap (λ (v : Verdict). v .number) (sym (first-stops cs ds (rw (← e) h)))
+
+pub number-passes : (n k : ℕ) (cs ds : List Check) → Numbered cs → n ≡ first cs .number → n ≤ 0 → k ≡ first ds .number → k ≡ first (cs ++ ds) .number
+number-passes n k cs ds num e h ek = ek ∙ ap (λ (v : Verdict). v .number) (sym (first-clear cs ds num (sym e ∙ omega arith)))
+
+-- lists of checks that differ in their places alone give the same number
+abbrev pub Alike : List Check → List Check → Type 0
+Alike [] [] = Unit {0}
+Alike [] (d ∷ ds) = ⊥
+Alike (c ∷ cs) [] = ⊥
+Alike (c ∷ cs) (d ∷ ds) = ((c .when ≡ d .when) × (c .number ≡ d .number)) × Alike cs ds
+
+pub number-alike : (cs ds : List Check) → Alike cs ds → first cs .number ≡ first ds .number
+unfolding first
+number-alike [] [] h = refl
+number-alike [] (d ∷ ds) h = absurd h
+number-alike (c ∷ cs) [] h = absurd h
+number-alike (c ∷ cs) (d ∷ ds) h = rw (← h .0 .0) (go (c .when) (number-alike cs ds (h .1)))
+  where
+    go : (w : Bool) → first cs .number ≡ first ds .number
+        → cond w (verdict (c .number) (c .place)) (first cs) .number ≡ cond w (verdict (d .number) (d .place)) (first ds) .number
+    go true e = h .0 .1
+    go false e = e
+
+pub at-append : (p : ℕ) (cs ds : List Check) → AllAt p cs → AllAt p ds → AllAt p (cs ++ ds)
+at-append p [] ds h k = k
+at-append p (c ∷ cs) ds h k = (h .0, at-append p cs ds (h .1) k)

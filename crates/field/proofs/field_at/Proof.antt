@@ -35,8 +35,7 @@ returns-3 c =
     let the-if1 = c .before .before .before .if1 in
     let the-if2 = c .before .before .if2 in
     let the-two = c .before .two in
-    let the-if3 = c .if3 in
-    field-cut-value (the-args .bytes .now) (the-args .at) (the-if1 .left) (the-if2 .left) (the-two .result) (the-two .ensures) (the-if3 .taken)
+    field-cut-value (the-args .bytes .now) (the-args .at) (the-if1 .left) (the-if2 .left) (the-two .result) (the-two .ensures) (search needs)
 
 shared-slice-read-t9 : tie.Need-shared-slice-read-t9
 shared-slice-read-t9 c = search needs
@@ -47,8 +46,7 @@ returns-4 c =
     let the-if1 = c .before .before .before .before .if1 in
     let the-if2 = c .before .before .before .if2 in
     let the-two = c .before .before .two in
-    let the-if3 = c .before .if3 in
-    field-whole (the-args .bytes .now) (the-args .at) (the-if1 .left) (the-if2 .left) (the-two .result) (the-two .ensures) (the-if3 .left)
+    field-whole (the-args .bytes .now) (the-args .at) (the-if1 .left) (the-if2 .left) (the-two .result) (the-two .ensures) (search needs)
 
 pub field-at-spec : {M : Type 1} → statement M
 field-at-spec =

@@ -1,0 +1,5 @@
+-- Laws that belong to no one function, bottom to top.
+pub mod Heads
+pub mod Contents
+pub mod FieldByField
+pub mod Whole

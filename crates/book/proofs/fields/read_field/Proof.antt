@@ -1,0 +1,64 @@
+-- Refused by its content, or as `put` finds room.
+use Rattle.table.specs.Rows.{lanes}
+use Rattle.book.proofs.FieldByField.{field-refused, field-ready, field-put}
+use borrow.Author.Needs.{needs}
+use Rattle.book.proofs.fields.read_field.Statement.{statement}
+use Rattle.book.proofs.fields.read_field.Tie as tie
+
+content-at-requires : tie.Need-content-at-requires
+content-at-requires c κs = search needs
+
+returns : tie.Need-returns
+returns c =
+    let the-args = c .before .before .before .before .before .before .before .before .args in
+    let the-pre = c .before .before .before .before .before .before .before .before .pre in
+    let the-content-at = c .before .before .content-at in
+    let the-if1 = c .if1 in
+    field-refused (the-args .kind) (the-args .book .now) (the-args .at) (lanes (the-args .subj .now) (the-args .pred .now) (the-args .obj .now) (the-args .ann .now)) (the-args .count) (the-pre) _ _ (the-content-at .ensures) (the-if1 .taken)
+
+put-requires : tie.Need-put-requires
+put-requires c κs =
+    let the-args = c .before .before .before .before .before .before .before .before .before .before .before .before .args in
+    let the-pre = c .before .before .before .before .before .before .before .before .before .before .before .before .pre in
+    let the-content-at = c .before .before .before .before .before .before .content-at in
+    let the-if1 = c .before .before .before .before .if1 in
+    field-ready (the-args .kind) (the-args .book .now) (the-args .at) (lanes (the-args .subj .now) (the-args .pred .now) (the-args .obj .now) (the-args .ann .now)) (the-args .count) (the-pre) _ _ (the-content-at .ensures) (the-if1 .left)
+
+room-number-requires : tie.Need-room-number-requires
+room-number-requires c κs = search needs
+
+same-length : tie.Need-same-length
+same-length c = search needs
+
+same-length-2 : tie.Need-same-length-2
+same-length-2 c = search needs
+
+same-length-3 : tie.Need-same-length-3
+same-length-3 c = search needs
+
+same-length-4 : tie.Need-same-length-4
+same-length-4 c = search needs
+
+returns-2 : tie.Need-returns-2
+returns-2 c =
+    let the-args = c .before .before .before .before .before .before .before .before .before .before .before .before .before .before .before .before .before .before .before .before .before .before .args in
+    let the-pre = c .before .before .before .before .before .before .before .before .before .before .before .before .before .before .before .before .before .before .before .before .before .before .pre in
+    let the-content-at = c .before .before .before .before .before .before .before .before .before .before .before .before .before .before .before .before .content-at in
+    let the-if1 = c .before .before .before .before .before .before .before .before .before .before .before .before .before .before .if1 in
+    let the-put = c .before .before .before .before .before .before .before .before .before .put in
+    let the-room-number = c .room-number in
+    field-put (the-args .kind) (the-args .book .now) (the-args .at) (lanes (the-args .subj .now) (the-args .pred .now) (the-args .obj .now) (the-args .ann .now)) (the-args .count) (the-pre) _ _ (the-content-at .ensures) (the-if1 .left) _ (the-put .result .full) (the-put .result .changed) _ _ (the-put .ensures) (the-room-number .ensures)
+
+pub read-field-spec : {M : Type 1} → statement M
+read-field-spec =
+    tie.close
+    (tie.spec
+    content-at-requires
+    returns
+    put-requires
+    room-number-requires
+    same-length
+    same-length-2
+    same-length-3
+    same-length-4
+    returns-2)

@@ -1,0 +1,75 @@
+-- "Book format": what a head and a triple field are, byte by byte, and what is refused of them.
+use mathlib.Core.Bool.{Bool, not, cond, _&&_}
+use mathlib.Core.List.{List, [], _∷_, _++_}
+use Prim.Native.Nat.{ℕ, _+_}
+use lib.ListN.{length, getD}
+use lib.Dec.{eqb, leb}
+use Rattle.term.specs.Refusal.{Check, refuse}
+use Rattle.term.specs.Term.{termChecks, predicateChecks}
+use Rattle.annotation.specs.Kinds.{kindChecks, annotationChecks}
+use Rattle.table.specs.Rows.{Row, row}
+use Rattle.field.specs.Numbers.{twoAt, eightAt, twoBytes, eightBytes}
+use Rattle.field.specs.Fields.{tagAt, sizeAt, isCut}
+
+-- "base year (2 bytes; 1900 to 2100 in kind 1, else 0)"
+abbrev pub isBase : ℕ → ℕ → Bool
+isBase kind base = cond (eqb kind 1) (leb 1900 base && leb base 2100) (eqb base 0)
+
+-- "5: base year"
+abbrev pub baseChecks : ℕ → ℕ → ℕ → List Check
+baseChecks kind base place = refuse (not (isBase kind base)) 5 place ∷ []
+
+-- "First the head: tag 1, length 4: edition 1, kind, base year"
+abbrev pub headEdition : List ℕ → ℕ
+headEdition b = getD b 3 0
+
+abbrev pub headKind : List ℕ → ℕ
+headKind b = getD b 4 0
+
+abbrev pub headBase : List ℕ → ℕ
+headBase b = twoAt b 5
+
+-- "3, 4, 5: edition; kind; base year"
+abbrev pub headContentChecks : List ℕ → List Check
+headContentChecks b = refuse (not (eqb (headEdition b) 1)) 3 0 ∷ (kindChecks (headKind b) 0 ++ baseChecks (headKind b) (headBase b) 0)
+
+-- "no head first (empty book included), length not 4" is 2; "cut, tag, length, content in byte order"
+abbrev pub headChecks : List ℕ → List Check
+headChecks b =
+    refuse (eqb (length b) 0) 2 0
+    ∷ refuse (isCut b 0) 1 0
+    ∷ refuse (not (eqb (tagAt b 0) 1)) 2 0
+    ∷ refuse (not (eqb (sizeAt b 0) 4)) 2 0
+    ∷ headContentChecks b
+
+-- "Then any number of tag 3, length 14: subject, predicate, object, annotation, high byte first"
+unfoldable pub rowIn : List ℕ → ℕ → Row
+rowIn b at = row (twoAt b (at + 3)) (twoAt b (at + 5)) (twoAt b (at + 7)) (eightAt b (at + 9))
+
+-- "content in byte order (8 before 9)"
+abbrev pub contentChecks : ℕ → Row → ℕ → List Check
+contentChecks kind r place =
+    termChecks (r .s) place ++ (predicateChecks (r .p) place ++ (termChecks (r .o) place ++ annotationChecks kind (r .a) place))
+
+-- a field after the head: cut; "second head" is 2; "tag neither 1 nor 3" is 6; "length not 14" is 7; its content
+abbrev pub fieldChecks : ℕ → List ℕ → ℕ → List Check
+fieldChecks kind b at =
+    refuse (isCut b at) 1 at
+    ∷ refuse (eqb (tagAt b at) 1) 2 at
+    ∷ refuse (not (eqb (tagAt b at) 3)) 6 at
+    ∷ refuse (not (eqb (sizeAt b at) 14)) 7 at
+    ∷ contentChecks kind (rowIn b at) at
+
+-- the bytes of a head, of a triple field, of all rows' fields, of a book
+unfoldable pub headBytes : ℕ → ℕ → List ℕ
+headBytes kind base = 1 ∷ 0 ∷ 4 ∷ 1 ∷ kind ∷ twoBytes base
+
+unfoldable pub fieldBytes : Row → List ℕ
+fieldBytes r = 3 ∷ 0 ∷ 14 ∷ (twoBytes (r .s) ++ (twoBytes (r .p) ++ (twoBytes (r .o) ++ eightBytes (r .a))))
+
+unfoldable pub fieldsBytes : List Row → List ℕ
+fieldsBytes [] = []
+fieldsBytes (r ∷ rs) = fieldBytes r ++ fieldsBytes rs
+
+abbrev pub bookBytes : ℕ → ℕ → List Row → List ℕ
+bookBytes kind base rows = headBytes kind base ++ fieldsBytes rows

@@ -1,0 +1,72 @@
+-- Reading a book into lent lanes: kind, base year, rows, or a number and place.
+use mathlib.Core.Path.{_≡_}
+use mathlib.Core.Bool.{Bool, true, false, cond}
+use mathlib.Core.List.{List, [], _∷_, _++_}
+use Prim.Native.Nat.{ℕ, zero, suc, _+_}
+use lib.ListN.{length}
+use lib.Dec.{eqb, leb, ltb}
+use Rattle.term.specs.Refusal.{Check, refuse, verdict, done, first}
+use Rattle.term.specs.declared.refusal.Verdict.{Verdict}
+use Rattle.annotation.specs.Kinds.{algebra}
+use Rattle.table.specs.Rows.{Row, Lanes, addRow, filled}
+use Rattle.table.specs.Checks.{isUnfit}
+use Rattle.book.specs.Format.{headChecks, headKind, headBase, fieldChecks, rowIn}
+
+-- what a book reads to
+pub record Read : Type 0 where
+  pub verdict-of : Verdict
+  pub kind : ℕ
+  pub base : ℕ
+  pub rows : List Row
+
+-- "A refused reading gives kind, base year and count 0"
+abbrev pub refused : Verdict → Read
+refused v = record { verdict-of = v; kind = 0; base = 0; rows = [] }
+
+abbrev pub readAs : ℕ → ℕ → List Row → Read
+readAs kind base rows = record { verdict-of = done; kind = kind; base = base; rows = rows }
+
+-- go on where the verdict is done (the work that follows waits behind a λ)
+abbrev pub goOn : Bool → Verdict → (Unit {0} → Read) → Read
+goOn true v next = next tt
+goOn false v next = refused v
+
+abbrev pub whenDone : Verdict → (Unit {0} → Read) → Read
+whenDone v next = goOn (eqb (v .number) 0) v next
+
+abbrev pub whenMore : Bool → Read → (Unit {0} → Read) → Read
+whenMore true over next = over
+whenMore false over next = next tt
+
+-- a field's checks, and "12 last": its row does not fit the room beside the rows before it
+abbrev pub stepChecks : ℕ → List ℕ → ℕ → ℕ → List Row → List Check
+stepChecks kind b room at rows =
+    fieldChecks kind b at ++ (refuse (ltb room (length (addRow (algebra kind) (rowIn b at) rows))) 12 at ∷ [])
+
+-- "field by field"; "Order is free and equal triples join". A field is 17 bytes, so there are fewer than bytes.
+unfoldable pub fieldsFrom : ℕ → ℕ → ℕ → List ℕ → ℕ → ℕ → List Row → Read
+fieldsFrom zero kind base b room at rows = readAs kind base rows
+fieldsFrom (suc fuel) kind base b room at rows =
+    whenMore (leb (length b) at) (readAs kind base rows)
+    (λ _.
+    whenDone (first (stepChecks kind b room at rows))
+    (λ _. fieldsFrom fuel kind base b room (at + 17) (addRow (algebra kind) (rowIn b at) rows)))
+
+-- the head is 7 bytes
+unfoldable pub readBook : List ℕ → ℕ → Read
+readBook b room = whenDone (first (headChecks b)) (λ _. fieldsFrom (length b) (headKind b) (headBase b) b room 7 [])
+
+-- "Reading: 11, 13, then field by field"
+abbrev pub lendChecks : List ℕ → Lanes → List Check
+lendChecks b l = refuse (isUnfit l) 11 0 ∷ refuse (ltb 65535 (length b)) 13 0 ∷ []
+
+abbrev pub reading : List ℕ → Lanes → Read
+reading b l = whenDone (first (lendChecks b l)) (λ _. readBook b (length (l .subj)))
+
+-- "11, 13 change nothing"; "Other refusals of reading leave all rows zero and count 0"; "rows past the count are all zero"
+pub record Reading (b : List ℕ) (l m : Lanes) (number place kind base count : ℕ) : Type 0 where
+  pub verdict-is : verdict number place ≡ reading b l .verdict-of
+  pub kind-is : kind ≡ reading b l .kind
+  pub base-is : base ≡ reading b l .base
+  pub count-is : count ≡ length (reading b l .rows)
+  pub lanes-are : m ≡ cond (eqb (first (lendChecks b l) .number) 0) (filled (reading b l .rows) l) l

@@ -1,0 +1,192 @@
+// What a head and a triple field say, and what is refused of them.
+ghost use mathlib.Core.Path.{_≡_};
+ghost use Prim.Native.Nat.{_+_, _≤_, _<_};
+ghost use lib.ListN.{length};
+ghost use Rattle.term.specs.Refusal.{first};
+ghost use Rattle.table.specs.Rows.{row};
+ghost use Rattle.book.specs.Format.{baseChecks, contentChecks};
+ghost use Rattle.book.specs.Inner.{HeadContent, HeadOf, TripleContent, ContentOf};
+use field::Field;
+use field::number::eight;
+use field::number::two;
+use field::reader::field_from;
+
+pub const CUT: u8 = 1;
+
+pub const NO_HEAD: u8 = 2;
+
+pub const WRONG_EDITION: u8 = 3;
+
+pub const WRONG_BASE: u8 = 5;
+
+pub const WRONG_TAG: u8 = 6;
+
+pub const WRONG_LENGTH: u8 = 7;
+
+pub const HEAD_TAG: u8 = 1;
+
+pub const TRIPLE_TAG: u8 = 3;
+
+pub const HEAD_SIZE: usize = 4;
+
+pub const TRIPLE_SIZE: usize = 14;
+
+pub const EDITION: u8 = 1;
+
+pub const FIRST_YEAR: u16 = 1900;
+
+pub const LAST_YEAR: u16 = 2100;
+
+pub struct Head {
+    pub number: u8,
+    pub kind: u8,
+    pub base: u16,
+}
+
+pub struct Content {
+    pub number: u8,
+    pub s: u16,
+    pub p: u16,
+    pub o: u16,
+    pub a: u64,
+}
+
+// The refusal of a base year in a kind, 0 where it is legal.
+pub fn base_refusal(kind: u8, base: u16) -> u8
+    ensures { λ r. ⌜ r ≡ first (baseChecks kind base 0) .number ⌝ }
+{
+    if kind == annotation::YEARS {
+        if base < FIRST_YEAR {
+            return WRONG_BASE;
+        }
+        if LAST_YEAR < base {
+            return WRONG_BASE;
+        }
+        return 0;
+    }
+    if base == 0 { 0 } else { WRONG_BASE }
+}
+
+fn no_head(number: u8) -> Head
+    ensures { λ r. ⌜ r .number ≡ number ⌝ }
+{
+    Head {
+        number,
+        kind: 0,
+        base: 0,
+    }
+}
+
+// Edition, kind, base year of a whole head field.
+fn head_content(book: &[u8]) -> Head
+    requires { ⌜ 7 ≤ length (now book) ⌝ }
+    ensures { λ r. ⌜ HeadContent (now (book .entry)) (r .number) (r .kind) (r .base) ⌝ }
+{
+    if book[3] != EDITION {
+        return no_head(WRONG_EDITION);
+    }
+    let kind = book[4];
+    let wrong_kind = annotation::kind_refusal(kind);
+    if wrong_kind > 0 {
+        return no_head(wrong_kind);
+    }
+    let base = two(book, 5);
+    Head {
+        number: base_refusal(kind, base),
+        kind,
+        base,
+    }
+}
+
+// The head at the front of a book.
+pub fn head_of(book: &[u8]) -> Head
+    ensures { λ r. ⌜ HeadOf (now (book .entry)) (r .number) (r .kind) (r .base) ⌝ }
+{
+    let field = field_from(book, 0);
+    match field {
+        Field::End => no_head(NO_HEAD),
+        Field::Cut => no_head(CUT),
+        Field::Whole(tag, size) => {
+            if tag != HEAD_TAG {
+                return no_head(NO_HEAD);
+            }
+            if size != HEAD_SIZE {
+                return no_head(NO_HEAD);
+            }
+            head_content(book)
+        }
+    }
+}
+
+// The refusal of a triple field's content, in byte order, 0 where it is legal.
+fn content_refusal(kind: u8, s: u16, p: u16, o: u16, a: u64) -> u8
+    ensures { λ r. ⌜ r ≡ first (contentChecks kind (row s p o a) 0) .number ⌝ }
+{
+    let subject = term::term_refusal(s);
+    if subject > 0 {
+        return subject;
+    }
+    let predicate = term::predicate_refusal(p);
+    if predicate > 0 {
+        return predicate;
+    }
+    let object = term::term_refusal(o);
+    if object > 0 {
+        return object;
+    }
+    annotation::annotation_refusal(kind, a)
+}
+
+fn no_content(number: u8) -> Content
+    ensures { λ r. ⌜ r .number ≡ number ⌝ }
+{
+    Content {
+        number,
+        s: 0,
+        p: 0,
+        o: 0,
+        a: 0,
+    }
+}
+
+// The content of a whole triple field.
+fn triple_content(kind: u8, book: &[u8], at: usize) -> Content
+    requires { ⌜ at + 17 ≤ length (now book) ⌝ }
+    ensures { λ r. ⌜ TripleContent kind (now (book .entry)) at (r .number) (row (r .s) (r .p) (r .o) (r .a)) ⌝ }
+{
+    let s = two(book, at + 3);
+    let p = two(book, at + 5);
+    let o = two(book, at + 7);
+    let a = eight(book, at + 9);
+    Content {
+        number: content_refusal(kind, s, p, o, a),
+        s,
+        p,
+        o,
+        a,
+    }
+}
+
+// The field at a position after the head.
+pub fn content_at(kind: u8, book: &[u8], at: usize) -> Content
+    requires { ⌜ at < length (now book) ⌝ }
+    ensures { λ r. ⌜ ContentOf kind (now (book .entry)) at (r .number) (row (r .s) (r .p) (r .o) (r .a)) ⌝ }
+{
+    let field = field_from(book, at);
+    match field {
+        Field::End => no_content(CUT),
+        Field::Cut => no_content(CUT),
+        Field::Whole(tag, size) => {
+            if tag == HEAD_TAG {
+                return no_content(NO_HEAD);
+            }
+            if tag != TRIPLE_TAG {
+                return no_content(WRONG_TAG);
+            }
+            if size != TRIPLE_SIZE {
+                return no_content(WRONG_LENGTH);
+            }
+            triple_content(kind, book, at)
+        }
+    }
+}

@@ -1,0 +1,100 @@
+// Field after field into the lent lanes.
+ghost use mathlib.Core.Path.{_≡_};
+ghost use mathlib.Core.Bool.{cond};
+ghost use Rattle.table.specs.Rows.{row, lanes};
+ghost use Rattle.book.specs.Inner.{FieldInto, FieldPut, Fresh, FieldsRead};
+use crate::content::content_at;
+use table::put::put;
+
+pub const HEAD_BYTES: usize = 7;
+
+pub const FIELD_BYTES: usize = 17;
+
+pub struct FieldDone {
+    pub number: u8,
+    pub count: usize,
+}
+
+pub struct FieldsDone {
+    pub number: u8,
+    pub place: usize,
+    pub count: usize,
+}
+
+// The field at a position is put into the table, or refused.
+fn read_field(
+    kind: u8,
+    book: &[u8],
+    at: usize,
+    subj: &mut [u16],
+    pred: &mut [u16],
+    obj: &mut [u16],
+    ann: &mut [u64],
+    count: usize,
+) -> FieldDone
+    requires { ⌜ FieldInto kind (now book) at (lanes (now subj) (now pred) (now obj) (now ann)) count ⌝ }
+    ensures { λ r. ⌜ FieldPut kind (now (book .entry)) at (lanes (now (subj .entry)) (now (pred .entry)) (now (obj .entry)) (now (ann .entry))) count (lanes (now (subj .exit)) (now (pred .exit)) (now (obj .exit)) (now (ann .exit))) (r .number) (r .count) ⌝ }
+{
+    let content = content_at(kind, book, at);
+    if content.number > 0 {
+        return FieldDone {
+            number: content.number,
+            count,
+        };
+    }
+    let done = put(
+        kind,
+        subj,
+        pred,
+        obj,
+        ann,
+        count,
+        content.s,
+        content.p,
+        content.o,
+        content.a,
+    );
+    FieldDone {
+        number: room_number(done.full),
+        count: done.count,
+    }
+}
+
+fn room_number(full: bool) -> u8
+    ensures { λ r. ⌜ r ≡ cond full 12 0 ⌝ }
+{
+    if full { table::NO_ROOM } else { 0 }
+}
+
+// Every field after the head, in order, until one is refused.
+pub fn read_fields(
+    kind: u8,
+    book: &[u8],
+    subj: &mut [u16],
+    pred: &mut [u16],
+    obj: &mut [u16],
+    ann: &mut [u64],
+) -> FieldsDone
+    requires { ⌜ Fresh kind (lanes (now subj) (now pred) (now obj) (now ann)) ⌝ }
+    ensures { λ r. ⌜ FieldsRead kind (now (book .entry)) (lanes (now (subj .entry)) (now (pred .entry)) (now (obj .entry)) (now (ann .entry))) (lanes (now (subj .exit)) (now (pred .exit)) (now (obj .exit)) (now (ann .exit))) (r .number) (r .place) (r .count) ⌝ }
+{
+    let mut at = HEAD_BYTES;
+    let mut count = 0;
+    while at < book.len() {
+        let done = read_field(kind, book, at, subj, pred, obj, ann, count);
+        if done.number > 0 {
+            return FieldsDone {
+                number: done.number,
+                place: at,
+                count: done.count,
+            };
+        }
+        count = done.count;
+        at += FIELD_BYTES;
+    }
+    FieldsDone {
+        number: 0,
+        place: 0,
+        count,
+    }
+}
