@@ -2,5 +2,6 @@
 pub mod Graphs
 -- What is shown of the closure, for every set of rules.
 pub mod LeastAgree
+pub mod TablesAgree
 pub mod ClosedStays
 pub mod Larger
