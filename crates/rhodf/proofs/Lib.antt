@@ -1,5 +1,6 @@
 -- What the order of graphs obeys, and the graph of rows with a row added.
 pub mod Graphs
+pub mod Growing
 -- What is shown of the closure, for every set of rules.
 pub mod LeastAgree
 pub mod TablesAgree
