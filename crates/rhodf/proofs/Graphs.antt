@@ -1,9 +1,8 @@
--- Graphs are ordered triple by triple, and the And of some triples' annotations grows with the graph: from `Laws` alone. Assumes nothing.
-use mathlib.Core.Path.{_≡_, refl, sym, ap, _∙_}
+-- Graphs are ordered triple by triple, and the And of some triples' annotations grows with the graph and is bottom unless all hold: from `Laws` alone. Assumes nothing.
 use mathlib.Core.List.{List, [], _∷_}
-use Prim.Native.Nat.{ℕ}
+use Prim.Native.Nat.{ℕ, _<_}
 use Rattle.annotation.specs.Algebra.{Algebra, AtMost, Laws}
-use Rattle.annotation.proofs.Order.{at-most-self, at-most-trans, meet-at-most}
+use Rattle.annotation.proofs.Order.{at-most-self, at-most-trans, meet-at-most, meet-not-bottom}
 use Rattle.table.specs.Rows.{Triple}
 use Rattle.rhodf.specs.Graph.{Graph, Valued, Below, meetAll}
 
@@ -23,3 +22,15 @@ module _ (K : Algebra) (L : Laws K) where
   meet-all-grows G H v w h (p ∷ ps) =
       meet-at-most K L (G p) (H p) (meetAll K G ps) (meetAll K H ps) (v .value p) (w .value p) (meet-all-value G v ps) (meet-all-value H w ps)
       (h .below p) (meet-all-grows G H v w h ps)
+
+-- every one of some triples holds
+abbrev pub AllHeld : Graph → List Triple → Type 0
+AllHeld G [] = Unit {0}
+AllHeld G (p ∷ ps) = (0 < G p) × AllHeld G ps
+
+module _ (K : Algebra) (L : Laws K) (G : Graph) (v : Valued K G) where
+  pub premises-held : (ps : List Triple) → 0 < meetAll K G ps → AllHeld G ps
+  premises-held [] h = tt
+  premises-held (p ∷ ps) h =
+      let both = meet-not-bottom K L (G p) (meetAll K G ps) (v .value p) (meet-all-value K L G v ps) h in
+      (both .0, premises-held ps (both .1))

@@ -1,6 +1,7 @@
 -- What the order of graphs obeys, and the graph of rows with a row added.
 pub mod Graphs
 pub mod Growing
+pub mod Drawing
 -- What is shown of the closure, for every set of rules.
 pub mod LeastAgree
 pub mod TablesAgree
