@@ -2,8 +2,10 @@
 pub mod Graphs
 pub mod Growing
 pub mod Drawing
+pub mod Deciding
 -- What is shown of the closure, for every set of rules.
 pub mod LeastAgree
 pub mod TablesAgree
 pub mod ClosedStays
 pub mod Larger
+pub mod ExistsFor
