@@ -3,7 +3,7 @@
 use mathlib.Core.Path.{_≡_, refl, sym, ap, _∙_}
 use mathlib.Core.Bool.{Bool, true, false, false≢true}
 use mathlib.Core.List.{List, [], _∷_}
-use mathlib.Core.Logic.{_⊎_, inl, inr}
+use mathlib.Core.Logic.{_⊎_, inl, inr, ⊎-map, Dec·and}
 use Prim.Native.Nat.{ℕ, _<_}
 use native.Mathlib.Decide.{ℕ-discrete}
 use native.Mathlib.Omega.{arith}
@@ -47,47 +47,68 @@ every {P} {U} try (x ∷ xs) = go (try (tripleOf x)) (every try xs)
             rw (← t≡) p
         at t h false e = later t (rw (value-there x xs t e) at h)
 
-module _ (K : Algebra) (L : Laws K) (R : Rules) (rows : List Row) (v : Valued K (graphOf rows)) where
-  -- the conclusion t of the premises ps, where they fit, is at most its value
-  abbrev pub AtMostThere : Type 0 → List Triple → Triple → Type 0
-  AtMostThere Fit ps t = Fit → Drawn t → AtMost K (meetAll K (graphOf rows) ps) (graphOf rows t)
+-- premises fit a rule where terms of theirs are equal
+abbrev pub Agree : List (ℕ × ℕ) → Type 0
+Agree [] = Unit {0}
+Agree (e ∷ es) = (e .0 ≡ e .1) × Agree es
 
-  one : (Fit : Type 0) → Dec Fit → (ps : List Triple) (t : Triple) → (Fit → R ps t) → AtMostThere Fit ps t ⊎ ToDraw K R (graphOf rows)
-  one Fit fits ps t rule = go fits (isName (t .p)) refl (ℕ-discrete (K .join (meetAll K (graphOf rows) ps) (graphOf rows t)) (graphOf rows t))
+agrees : (es : List (ℕ × ℕ)) → Dec (Agree es)
+agrees [] = yes tt
+agrees (e ∷ es) = Dec·and (ℕ-discrete (e .0) (e .1)) (agrees es)
+
+-- a rule of two, or of three, premises: which terms are to be equal, and the conclusion
+pub record OfTwo : Type 0 where
+  pub where-equal : Triple → Triple → List (ℕ × ℕ)
+  pub gives : Triple → Triple → Triple
+
+pub record OfThree : Type 0 where
+  pub where-equal : Triple → Triple → Triple → List (ℕ × ℕ)
+  pub gives : Triple → Triple → Triple → Triple
+
+-- where the terms are equal, the conclusion t of the premises ps is at most its value
+abbrev Obeyed : Algebra → Graph → List (ℕ × ℕ) → List Triple → Triple → Type 0
+Obeyed K G es ps t = Agree es → Drawn t → AtMost K (meetAll K G ps) (G t)
+
+abbrev pub ObeyedByTwo : Algebra → Graph → OfTwo → Type 0
+ObeyedByTwo K G rule = (x y : Triple) → Obeyed K G (rule .where-equal x y) (x ∷ y ∷ []) (rule .gives x y)
+
+abbrev pub ObeyedByThree : Algebra → Graph → OfThree → Type 0
+ObeyedByThree K G rule = (x y z : Triple) → Obeyed K G (rule .where-equal x y z) (x ∷ y ∷ z ∷ []) (rule .gives x y z)
+
+module _ (K : Algebra) (L : Laws K) (R : Rules) (rows : List Row) (v : Valued K (graphOf rows)) where
+  abbrev G : Graph
+  G = graphOf rows
+
+  obeyed-at : (es : List (ℕ × ℕ)) (ps : List Triple) (t : Triple) → (Agree es → R ps t) → Obeyed K G es ps t ⊎ ToDraw K R G
+  obeyed-at es ps t rule = go (agrees es) (isName (t .p)) refl (ℕ-discrete (K .join (meetAll K G ps) (G t)) (G t))
     where
-      go : Dec Fit → (b : Bool) → isName (t .p) ≡ b → Dec (AtMost K (meetAll K (graphOf rows) ps) (graphOf rows t))
-          → AtMostThere Fit ps t ⊎ ToDraw K R (graphOf rows)
+      go : Dec (Agree es) → (b : Bool) → isName (t .p) ≡ b → Dec (AtMost K (meetAll K G ps) (G t)) → Obeyed K G es ps t ⊎ ToDraw K R G
       go (no f) b e q = inl (λ fit named. absurd (f fit))
       go (yes f) false e q = inl (λ fit named. absurd (false≢true (sym e ∙ named)))
       go (yes f) true e (yes a) = inl (λ fit named. a)
       go (yes f) true e (no a) = inr (record { premises = ps; conclusion = t; follows = rule f; named = e; above = a })
 
   -- premises that do not all hold give bottom
-  where-held : (Fit : Type 0) (ps : List Triple) (t : Triple) → (AllHeld (graphOf rows) ps → AtMostThere Fit ps t) → AtMostThere Fit ps t
-  where-held Fit ps t h = go (tri 0 (meetAll K (graphOf rows) ps))
+  where-held : (es : List (ℕ × ℕ)) (ps : List Triple) (t : Triple) → (AllHeld G ps → Obeyed K G es ps t) → Obeyed K G es ps t
+  where-held es ps t h = go (tri 0 (meetAll K G ps))
     where
-      go : Tri 0 (meetAll K (graphOf rows) ps) → AtMostThere Fit ps t
-      go (less q) = h (premises-held K L (graphOf rows) v ps q)
-      go (same q) = λ fit named. rw (← q) (bottom-at-most K L (graphOf rows t))
+      go : Tri 0 (meetAll K G ps) → Obeyed K G es ps t
+      go (less q) = h (premises-held K L G v ps q)
+      go (same q) = λ fit named. rw (← q) (bottom-at-most K L (G t))
       go (more q) = absurd (omega arith)
 
-  module _ (Fit : Triple → Triple → Type 0) (fits : (x y : Triple) → Dec (Fit x y)) (C : Triple → Triple → Triple)
-      (rule : (x y : Triple) → Fit x y → R (x ∷ y ∷ []) (C x y)) where
-    pub at-every-two : ((x y : Triple) → AtMostThere (Fit x y) (x ∷ y ∷ []) (C x y)) ⊎ ToDraw K R (graphOf rows)
-    at-every-two = go (every (λ x. every (λ y. one (Fit x y) (fits x y) (x ∷ y ∷ []) (C x y) (rule x y)) rows) rows)
-      where
-        go : ((x : Triple) → 0 < graphOf rows x → (y : Triple) → 0 < graphOf rows y → AtMostThere (Fit x y) (x ∷ y ∷ []) (C x y)) ⊎ ToDraw K R (graphOf rows)
-            → ((x y : Triple) → AtMostThere (Fit x y) (x ∷ y ∷ []) (C x y)) ⊎ ToDraw K R (graphOf rows)
-        go (inl f) = inl (λ x y. where-held (Fit x y) (x ∷ y ∷ []) (C x y) (λ h. f x (h .0) y (h .1 .0)))
-        go (inr u) = inr u
+  pub obeyed-by-two : (rule : OfTwo) → ((x y : Triple) → Agree (rule .where-equal x y) → R (x ∷ y ∷ []) (rule .gives x y))
+      → ObeyedByTwo K G rule ⊎ ToDraw K R G
+  obeyed-by-two rule is =
+      ⊎-map
+      (λ f x y. where-held (rule .where-equal x y) (x ∷ y ∷ []) (rule .gives x y) (λ h. f x (h .0) y (h .1 .0)))
+      (λ u. u)
+      (every (λ x. every (λ y. obeyed-at (rule .where-equal x y) (x ∷ y ∷ []) (rule .gives x y) (is x y)) rows) rows)
 
-  module _ (Fit : Triple → Triple → Triple → Type 0) (fits : (x y z : Triple) → Dec (Fit x y z)) (C : Triple → Triple → Triple → Triple)
-      (rule : (x y z : Triple) → Fit x y z → R (x ∷ y ∷ z ∷ []) (C x y z)) where
-    pub at-every-three : ((x y z : Triple) → AtMostThere (Fit x y z) (x ∷ y ∷ z ∷ []) (C x y z)) ⊎ ToDraw K R (graphOf rows)
-    at-every-three = go (every (λ x. every (λ y. every (λ z. one (Fit x y z) (fits x y z) (x ∷ y ∷ z ∷ []) (C x y z) (rule x y z)) rows) rows) rows)
-      where
-        go : ((x : Triple) → 0 < graphOf rows x → (y : Triple) → 0 < graphOf rows y → (z : Triple) → 0 < graphOf rows z
-                → AtMostThere (Fit x y z) (x ∷ y ∷ z ∷ []) (C x y z)) ⊎ ToDraw K R (graphOf rows)
-            → ((x y z : Triple) → AtMostThere (Fit x y z) (x ∷ y ∷ z ∷ []) (C x y z)) ⊎ ToDraw K R (graphOf rows)
-        go (inl f) = inl (λ x y z. where-held (Fit x y z) (x ∷ y ∷ z ∷ []) (C x y z) (λ h. f x (h .0) y (h .1 .0) z (h .1 .1 .0)))
-        go (inr u) = inr u
+  pub obeyed-by-three : (rule : OfThree) → ((x y z : Triple) → Agree (rule .where-equal x y z) → R (x ∷ y ∷ z ∷ []) (rule .gives x y z))
+      → ObeyedByThree K G rule ⊎ ToDraw K R G
+  obeyed-by-three rule is =
+      ⊎-map
+      (λ f x y z. where-held (rule .where-equal x y z) (x ∷ y ∷ z ∷ []) (rule .gives x y z) (λ h. f x (h .0) y (h .1 .0) z (h .1 .1 .0)))
+      (λ u. u)
+      (every (λ x. every (λ y. every (λ z. obeyed-at (rule .where-equal x y z) (x ∷ y ∷ z ∷ []) (rule .gives x y z) (is x y z)) rows) rows) rows)

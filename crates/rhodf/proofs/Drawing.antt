@@ -48,9 +48,9 @@ abbrev pub AllLegalTriples : List Triple → Type 0
 AllLegalTriples [] = Unit {0}
 AllLegalTriples (t ∷ ts) = LegalTriple t × AllLegalTriples ts
 
--- rules whose conclusions have legal terms where the premises have
+-- rules that conclude only of legal terms where the premises are legal
 abbrev pub KeepLegal : Rules → Type 0
-KeepLegal R = (ps : List Triple) (t : Triple) → R ps t → AllLegalTriples ps → Drawn t → LegalTriple t
+KeepLegal R = (ps : List Triple) (t : Triple) → R ps t → AllLegalTriples ps → (isLegalTerm (t .s) ≡ true) × (isLegalTerm (t .o) ≡ true)
 
 -- premises whose And is not bottom are rows, and so legal
 module _ (kind : ℕ) (rows : List Row) (sound : SoundRows kind rows) where
@@ -64,10 +64,10 @@ module _ (kind : ℕ) (rows : List Row) (sound : SoundRows kind rows) where
       → 0 < meetAll (algebra kind) (graphOf rows) ps → LegalRow kind (conclusionRow (algebra kind) (graphOf rows) ps t)
   conclusion-legal R keeps ps t follows named h =
       let v = rows-valued kind rows sound in
-      let terms = keeps ps t follows (held-are-legal ps (premises-held (algebra kind) (laws kind) (graphOf rows) v ps h)) named in
+      let terms = keeps ps t follows (held-are-legal ps (premises-held (algebra kind) (laws kind) (graphOf rows) v ps h)) in
       record {
-        subject = terms .subject;
-        predicate = terms .predicate;
-        object = terms .object;
+        subject = terms .0;
+        predicate = named;
+        object = terms .1;
         annotation = value-legal (meetAll (algebra kind) (graphOf rows) ps) kind h (meet-all-value (algebra kind) (laws kind) (graphOf rows) v ps);
       }

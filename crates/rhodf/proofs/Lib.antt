@@ -8,4 +8,6 @@ pub mod LeastAgree
 pub mod TablesAgree
 pub mod ClosedStays
 pub mod Larger
+pub mod RulesDecided
 pub mod ExistsFor
+pub mod Exists
