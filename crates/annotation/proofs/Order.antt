@@ -56,6 +56,7 @@ module _ (K : Algebra) (L : Laws K) where
       left : Dec (0 < a) → 0 < a
       left (yes q) = q
       left (no q) = let e : a ≡ 0 = omega arith in absurd (omega (arith, rw (e, L .meet-comm 0 b, L .meet-bottom b vb) at h))
+
       right : Dec (0 < b) → 0 < b
       right (yes q) = q
       right (no q) = let e : b ≡ 0 = omega arith in absurd (omega (arith, rw (e, L .meet-bottom a va) at h))

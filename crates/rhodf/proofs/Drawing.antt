@@ -34,8 +34,8 @@ drawn-same-closure K L R rows smalls ascending v ps t follows named small G g =
       holds = below-trans K L (below-added K L r rows small smalls ascending) (g .holds);
       least = λ H w c b.
           g .least H w c (added-below K L r rows small smalls ascending H b
-              (at-most-trans K L (meetAll K (graphOf rows) ps) (meetAll K H ps) (H t)
-              (meet-all-grows K L (graphOf rows) H v w b ps) (c .closed ps t follows named)));
+          (at-most-trans K L (meetAll K (graphOf rows) ps) (meetAll K H ps) (H t)
+          (meet-all-grows K L (graphOf rows) H v w b ps) (c .closed ps t follows named)));
     }
 
 -- a triple whose terms may stand where they do

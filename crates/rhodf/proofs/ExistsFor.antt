@@ -1,11 +1,10 @@
 -- The closure exists for every set of rules that keep terms legal and of which it is decided whether a table is closed: conclusions are drawn one by one,
 -- each raises the sum of annotations, and that sum is bounded. Assumes nothing.
-use mathlib.Core.Path.{_≡_}
 use mathlib.Core.List.{List}
 use mathlib.Core.Logic.{_⊎_, inl, inr}
 use Prim.Native.Nat.{ℕ, zero, suc, _+_, _<_}
 use native.Mathlib.Omega.{arith}
-use Rattle.annotation.specs.Algebra.{Algebra, AtMost, Laws}
+use Rattle.annotation.specs.Algebra.{Algebra, AtMost}
 use Rattle.annotation.specs.Kinds.{algebra}
 use Rattle.annotation.proofs.KindLaws.{laws}
 use Rattle.annotation.proofs.Order.{bottom-at-most}
@@ -21,7 +20,7 @@ use Rattle.rhodf.specs.Closure.{Closed, ClosureOf}
 use Rattle.rhodf.proofs.Growing.{rows-valued, added-raises}
 use Rattle.rhodf.proofs.Drawing.{conclusionRow, drawn-same-closure, KeepLegal, conclusion-legal}
 use Rattle.rhodf.proofs.Deciding.{ToDraw, Decided}
-use Rattle.rhodf.proofs.ClosedStays.{closed-is-least}
+use Rattle.rhodf.proofs.ClosedStays.{closed-is-closure}
 
 module _ (R : Rules) (keeps : KeepLegal R) (decided : Decided R) (kind : ℕ) where
   -- what is not at most a value is not bottom
@@ -40,7 +39,7 @@ module _ (R : Rules) (keeps : KeepLegal R) (decided : Decided R) (kind : ℕ) wh
       go : Closed (algebra kind) R (graphOf rows) ⊎ ToDraw (algebra kind) R (graphOf rows)
           → ((rows : List Row) → SoundRows kind rows → mostTotal < total rows + left → (closed : List Row) × ClosureOf kind R rows closed)
           → (closed : List Row) × ClosureOf kind R rows closed
-      go (inl c) again = (rows, record { sound = sound; is-least = closed-is-least (algebra kind) (laws kind) R (graphOf rows) (rows-valued kind rows sound) c })
+      go (inl c) again = (rows, closed-is-closure kind R rows sound c)
       go (inr u) again =
           let r : Row = conclusionRow (algebra kind) (graphOf rows) (u .premises) (u .conclusion) in
           let legal : LegalRow kind r

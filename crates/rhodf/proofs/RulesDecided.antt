@@ -1,4 +1,4 @@
--- The rules keep terms legal, and of every table it is decided whether it is closed under them: a line for each rule says which premises fit it.
+-- Of every table it is decided whether it is closed under the rules: a line for each rule says which premises fit it. And they keep terms legal.
 -- Assumes nothing.
 use mathlib.Core.Path.{_≡_, refl}
 use mathlib.Core.Bool.{true}
@@ -14,16 +14,6 @@ use Rattle.rhodf.specs.Rules.{Drawn, Rule, r2a, r2b, r3a, r3b, r4a, r4b,
 use Rattle.rhodf.specs.Closure.{Closed}
 use Rattle.rhodf.proofs.Drawing.{LegalTriple, KeepLegal}
 use Rattle.rhodf.proofs.Deciding.{ToDraw, Decided, Agree, OfTwo, OfThree, ObeyedByTwo, ObeyedByThree, obeyed-by-two, obeyed-by-three}
-
-pub rules-keep-legal : KeepLegal Rule
-rules-keep-legal ps t (r2a a b c) h = (h .0 .subject, h .1 .0 .object)
-rules-keep-legal ps t (r2b d e x y) h = (h .1 .0 .subject, h .1 .0 .object)
-rules-keep-legal ps t (r3a a b c) h = (h .0 .subject, h .1 .0 .object)
-rules-keep-legal ps t (r3b a b x) h = (h .1 .0 .subject, h .0 .object)
-rules-keep-legal ps t (r4a d b x y) h = (h .1 .0 .subject, h .0 .object)
-rules-keep-legal ps t (r4b d b x y) h = (h .1 .0 .object, h .0 .object)
-rules-keep-legal ps t (r5a a b d x y) h = (h .1 .1 .0 .subject, h .0 .object)
-rules-keep-legal ps t (r5b a b d x y) h = (h .1 .1 .0 .object, h .0 .object)
 
 -- each rule, by the terms of its premises that are to be equal
 abbrev rule-2a : OfTwo
@@ -109,3 +99,14 @@ rules-decided K L rows v = do
   o5a ← obeyed-by-three K L Rule rows v rule-5a fits-5a
   o5b ← obeyed-by-three K L Rule rows v rule-5b fits-5b
   inl (record { closed = closed-by-rules K rows o2a o2b o3a o3b o4a o4b o5a o5b })
+
+-- each conclusion's terms are terms of the premises
+pub rules-keep-legal : KeepLegal Rule
+rules-keep-legal ps t (r2a a b c) h = (h .0 .subject, h .1 .0 .object)
+rules-keep-legal ps t (r2b d e x y) h = (h .1 .0 .subject, h .1 .0 .object)
+rules-keep-legal ps t (r3a a b c) h = (h .0 .subject, h .1 .0 .object)
+rules-keep-legal ps t (r3b a b x) h = (h .1 .0 .subject, h .0 .object)
+rules-keep-legal ps t (r4a d b x y) h = (h .1 .0 .subject, h .0 .object)
+rules-keep-legal ps t (r4b d b x y) h = (h .1 .0 .object, h .0 .object)
+rules-keep-legal ps t (r5a a b d x y) h = (h .1 .1 .0 .subject, h .0 .object)
+rules-keep-legal ps t (r5b a b d x y) h = (h .1 .1 .0 .object, h .0 .object)

@@ -11,14 +11,11 @@ use Rattle.annotation.proofs.Legal.{legal-value}
 use Rattle.table.specs.Rows.{Triple, Row, row, key, isTriple, valueAt}
 use Rattle.table.specs.Sound.{LegalRow, Over, Ascending, AllLegal, SoundRows}
 use Rattle.table.proofs.Ordering.{Tri, less, same, more, tri, over-down}
-use Rattle.table.proofs.Values.{tripleOf, is-triple, triple-is, key-tells, legal-small, value-none, value-here, value-there, over-value}
+use Rattle.table.proofs.Values.{tripleOf, is-triple, triple-is, key-tells, legal-small, first-value, value-here, value-there, over-value}
 use Rattle.rhodf.specs.Graph.{graphOf}
 use Rattle.rhodf.specs.Rules.{Rules}
 use Rattle.rhodf.specs.Closure.{ClosureOf}
 use Rattle.rhodf.proofs.LeastAgree.{least-agree}
-
-first-value : (x : Row) (xs : List Row) → valueAt (x ∷ xs) (tripleOf x) ≡ x .a
-first-value x xs = value-here x xs (tripleOf x) (is-triple (tripleOf x) x refl refl refl)
 
 -- what the same row stands above agrees too
 rest-agrees : (x : Row) (xs ys : List Row) → Over (key x) xs → Over (key x) ys

@@ -81,6 +81,9 @@ module _ (x : Row) (xs : List Row) (t : Triple) where
   unfolding valueAt
   value-there h = rw h refl
 
+pub first-value : (x : Row) (xs : List Row) → valueAt (x ∷ xs) (tripleOf x) ≡ x .a
+first-value x xs = value-here x xs (tripleOf x) (is-triple (tripleOf x) x refl refl refl)
+
 value-tail : (x : Row) (xs ys : List Row) (t : Triple) → valueAt xs t ≡ valueAt ys t → valueAt (x ∷ xs) t ≡ valueAt (x ∷ ys) t
 unfolding valueAt
 value-tail x xs ys t e = ap (λ (z : ℕ). cond (isTriple t x) (x .a) z) e
