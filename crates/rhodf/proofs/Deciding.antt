@@ -1,18 +1,17 @@
 -- A table is closed, or has a conclusion that is not at most its value: found by trying a rule at every two, or every three, of its rows.
 -- Assumes nothing.
-use mathlib.Core.Path.{_≡_, refl, sym, ap, _∙_}
-use mathlib.Core.Bool.{Bool, true, false, false≢true}
+use mathlib.Core.Path.{_≡_, refl}
+use mathlib.Core.Bool.{Bool, true, false, Bool-discrete}
 use mathlib.Core.List.{List, [], _∷_}
 use mathlib.Core.Logic.{_⊎_, inl, inr, ⊎-map, Dec·and}
 use Prim.Native.Nat.{ℕ, _<_}
 use native.Mathlib.Decide.{ℕ-discrete}
 use native.Mathlib.Omega.{arith}
-use Rattle.term.specs.Term.{isName}
 use Rattle.annotation.specs.Algebra.{Algebra, AtMost, Laws}
 use Rattle.annotation.proofs.Order.{bottom-at-most}
 use Rattle.table.specs.Rows.{Triple, Row, isTriple, valueAt}
 use Rattle.table.proofs.Ordering.{Tri, less, same, more, tri}
-use Rattle.table.proofs.Values.{tripleOf, triple-is, value-none, value-there}
+use Rattle.table.proofs.Values.{tripleOf, triple-tells, value-none, value-there}
 use Rattle.rhodf.specs.Graph.{Graph, graphOf, Valued, meetAll}
 use Rattle.rhodf.specs.Rules.{Rules, Drawn}
 use Rattle.rhodf.specs.Closure.{Closed}
@@ -41,10 +40,7 @@ every {P} {U} try (x ∷ xs) = go (try (tripleOf x)) (every try xs)
     go (inl p) (inl later) = inl (λ t h. at t h (isTriple t x) refl)
       where
         at : (t : Triple) → 0 < valueAt (x ∷ xs) t → (b : Bool) → isTriple t x ≡ b → P t
-        at t h true e =
-            let b = triple-is t x e in
-            let t≡ : tripleOf x ≡ t = λ i. record { s = b .same-s i; p = b .same-p i; o = b .same-o i } in
-            rw (← t≡) p
+        at t h true e = rw (← triple-tells t x e) p
         at t h false e = later t (rw (value-there x xs t e) at h)
 
 -- premises fit a rule where terms of theirs are equal
@@ -55,6 +51,9 @@ Agree (e ∷ es) = (e .0 ≡ e .1) × Agree es
 agrees : (es : List (ℕ × ℕ)) → Dec (Agree es)
 agrees [] = yes tt
 agrees (e ∷ es) = Dec·and (ℕ-discrete (e .0) (e .1)) (agrees es)
+
+named? : (t : Triple) → Dec (Drawn t)
+named? t = Bool-discrete _ _
 
 -- a rule of two, or of three, premises: which terms are to be equal, and the conclusion
 pub record OfTwo : Type 0 where
@@ -80,13 +79,13 @@ module _ (K : Algebra) (L : Laws K) (R : Rules) (rows : List Row) (v : Valued K 
   G = graphOf rows
 
   obeyed-at : (es : List (ℕ × ℕ)) (ps : List Triple) (t : Triple) → (Agree es → R ps t) → Obeyed K G es ps t ⊎ ToDraw K R G
-  obeyed-at es ps t rule = go (agrees es) (isName (t .p)) refl (ℕ-discrete (K .join (meetAll K G ps) (G t)) (G t))
+  obeyed-at es ps t rule = go (agrees es) (named? t) (ℕ-discrete (K .join (meetAll K G ps) (G t)) (G t))
     where
-      go : Dec (Agree es) → (b : Bool) → isName (t .p) ≡ b → Dec (AtMost K (meetAll K G ps) (G t)) → Obeyed K G es ps t ⊎ ToDraw K R G
-      go (no f) b e q = inl (λ fit named. absurd (f fit))
-      go (yes f) false e q = inl (λ fit named. absurd (false≢true (sym e ∙ named)))
-      go (yes f) true e (yes a) = inl (λ fit named. a)
-      go (yes f) true e (no a) = inr (record { premises = ps; conclusion = t; follows = rule f; named = e; above = a })
+      go : Dec (Agree es) → Dec (Drawn t) → Dec (AtMost K (meetAll K G ps) (G t)) → Obeyed K G es ps t ⊎ ToDraw K R G
+      go (no f) n a = inl (λ fit named. absurd (f fit))
+      go (yes f) (no n) a = inl (λ fit named. absurd (n named))
+      go (yes f) (yes n) (yes a) = inl (λ fit named. a)
+      go (yes f) (yes n) (no a) = inr (record { premises = ps; conclusion = t; follows = rule f; named = n; above = a })
 
   -- premises that do not all hold give bottom
   where-held : (es : List (ℕ × ℕ)) (ps : List Triple) (t : Triple) → (AllHeld G ps → Obeyed K G es ps t) → Obeyed K G es ps t

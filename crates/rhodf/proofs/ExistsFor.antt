@@ -4,7 +4,6 @@ use mathlib.Core.List.{List}
 use mathlib.Core.Logic.{_⊎_, inl, inr}
 use Prim.Native.Nat.{ℕ, zero, suc, _+_, _<_}
 use native.Mathlib.Omega.{arith}
-use Rattle.annotation.specs.Algebra.{Algebra, AtMost}
 use Rattle.annotation.specs.Kinds.{algebra}
 use Rattle.annotation.proofs.KindLaws.{laws}
 use Rattle.annotation.proofs.Order.{bottom-at-most}

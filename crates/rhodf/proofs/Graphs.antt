@@ -1,6 +1,6 @@
 -- Graphs are ordered triple by triple, and the And of some triples' annotations grows with the graph and is bottom unless all hold: from `Laws` alone. Assumes nothing.
 use mathlib.Core.List.{List, [], _∷_}
-use Prim.Native.Nat.{ℕ, _<_}
+use Prim.Native.Nat.{_<_}
 use Rattle.annotation.specs.Algebra.{Algebra, AtMost, Laws}
 use Rattle.annotation.proofs.Order.{at-most-self, at-most-trans, meet-at-most, meet-not-bottom}
 use Rattle.table.specs.Rows.{Triple}

@@ -1,8 +1,8 @@
 -- The graph of rows with a row added is the least one that is above the rows' and holds the row; and where it is another, the sum of annotations rose.
 -- Assumes nothing.
-use mathlib.Core.Path.{_≡_, refl, sym, ap, _∙_}
+use mathlib.Core.Path.{_≡_, refl, _∙_}
 use mathlib.Core.Bool.{Bool, true, false}
-use mathlib.Core.List.{List, [], _∷_}
+use mathlib.Core.List.{List}
 use Prim.Native.Nat.{ℕ, _<_}
 use native.Mathlib.Omega.{arith}
 use Rattle.annotation.specs.Algebra.{Algebra, AtMost, Laws}
@@ -13,7 +13,7 @@ use Rattle.annotation.proofs.Order.{at-most-self, at-most-join-left, join-at-mo
 use Rattle.table.specs.Rows.{Triple, Row, addRow, isTriple, valueAt, total}
 use Rattle.table.specs.Sound.{Ascending, SoundRows}
 use Rattle.table.proofs.Ordering.{Tri, less, same, more, tri}
-use Rattle.table.proofs.Values.{Small, AllSmall, tripleOf, triple-is, value-add-same, value-add-other, held-legal}
+use Rattle.table.proofs.Values.{Small, AllSmall, tripleOf, triple-tells, value-add-same, value-add-other, held-legal}
 use Rattle.table.proofs.Totals.{total-add}
 use Rattle.rhodf.specs.Graph.{Graph, graphOf, Valued, Below}
 
@@ -33,10 +33,7 @@ module _ (K : Algebra) (L : Laws K) (r : Row) (rows : List Row) (small : Small r
   at-each P here elsewhere t = go (isTriple t r) refl
     where
       go : (b : Bool) → isTriple t r ≡ b → P t (valueAt (addRow K r rows) t)
-      go true e =
-          let b = triple-is t r e in
-          let t≡ : tripleOf r ≡ t = λ i. record { s = b .same-s i; p = b .same-p i; o = b .same-o i } in
-          rw (← t≡, value-add-same K r small L rows smalls ascending) here
+      go true e = rw (← triple-tells t r e, value-add-same K r small L rows smalls ascending) here
       go false e = rw (value-add-other K r small rows smalls t e) (elsewhere t)
 
   pub below-added : Below K (graphOf rows) (graphOf (addRow K r rows))

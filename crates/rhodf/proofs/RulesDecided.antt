@@ -1,19 +1,15 @@
 -- Of every table it is decided whether it is closed under the rules: a line for each rule says which premises fit it. And they keep terms legal.
 -- Assumes nothing.
-use mathlib.Core.Path.{_≡_, refl}
-use mathlib.Core.Bool.{true}
+use mathlib.Core.Path.{refl}
 use mathlib.Core.List.{List, [], _∷_}
 use mathlib.Core.Logic.{_⊎_, inl, inr}
-use Prim.Native.Nat.{ℕ}
-use native.Mathlib.Decide.{ℕ-discrete}
 use Rattle.term.specs.Term.{sp, sc, type, dom, range}
-use Rattle.annotation.specs.Algebra.{Algebra, AtMost, Laws}
-use Rattle.table.specs.Rows.{Triple, Row, triple}
+use Rattle.annotation.specs.Algebra.{Algebra, AtMost}
+use Rattle.table.specs.Rows.{Triple, triple}
 use Rattle.rhodf.specs.Graph.{Graph, graphOf, meetAll}
 use Rattle.rhodf.specs.Rules.{Drawn, Rule, r2a, r2b, r3a, r3b, r4a, r4b, r5a, r5b}
-use Rattle.rhodf.specs.Closure.{Closed}
-use Rattle.rhodf.proofs.Drawing.{LegalTriple, KeepLegal}
-use Rattle.rhodf.proofs.Deciding.{ToDraw, Decided, Agree, OfTwo, OfThree, ObeyedByTwo, ObeyedByThree, obeyed-by-two, obeyed-by-three}
+use Rattle.rhodf.proofs.Drawing.{KeepLegal}
+use Rattle.rhodf.proofs.Deciding.{Decided, Agree, OfTwo, OfThree, ObeyedByTwo, ObeyedByThree, obeyed-by-two, obeyed-by-three}
 
 -- each rule, by the terms of its premises that are to be equal
 abbrev rule-2a : OfTwo
@@ -64,24 +60,19 @@ fits-5a x y z f = rw (f .0, f .1 .0, f .1 .1 .0, f .1 .1 .1 .0) (r5a (x .s) (x .
 fits-5b : (x y z : Triple) → Agree (rule-5b .where-equal x y z) → Rule (x ∷ y ∷ z ∷ []) (rule-5b .gives x y z)
 fits-5b x y z f = rw (f .0, f .1 .0, f .1 .1 .0, f .1 .1 .1 .0) (r5b (x .s) (x .o) (y .s) (z .s) (z .o))
 
-module _ (K : Algebra) (rows : List Row) where
-  abbrev G : Graph
-  G = graphOf rows
-
-  -- a graph is closed where each of the rules is obeyed
-  closed-by-rules : ObeyedByTwo K G rule-2a → ObeyedByTwo K G rule-2b → ObeyedByTwo K G rule-3a → ObeyedByTwo K G rule-3b
-      → ObeyedByTwo K G rule-4a → ObeyedByTwo K G rule-4b → ObeyedByThree K G rule-5a → ObeyedByThree K G rule-5b
-      → (ps : List Triple) (t : Triple) → Rule ps t → Drawn t → AtMost K (meetAll K G ps) (G t)
-  closed-by-rules o2a o2b o3a o3b o4a o4b o5a o5b ps t (r2a a b c) named = o2a (triple a sp b) (triple b sp c) (refl, (refl, (refl, tt))) named
-  closed-by-rules o2a o2b o3a o3b o4a o4b o5a o5b ps t (r2b d e x y) named = o2b (triple d sp e) (triple x d y) (refl, (refl, tt)) named
-  closed-by-rules o2a o2b o3a o3b o4a o4b o5a o5b ps t (r3a a b c) named = o3a (triple a sc b) (triple b sc c) (refl, (refl, (refl, tt))) named
-  closed-by-rules o2a o2b o3a o3b o4a o4b o5a o5b ps t (r3b a b x) named = o3b (triple a sc b) (triple x type a) (refl, (refl, (refl, tt))) named
-  closed-by-rules o2a o2b o3a o3b o4a o4b o5a o5b ps t (r4a d b x y) named = o4a (triple d dom b) (triple x d y) (refl, (refl, tt)) named
-  closed-by-rules o2a o2b o3a o3b o4a o4b o5a o5b ps t (r4b d b x y) named = o4b (triple d range b) (triple x d y) (refl, (refl, tt)) named
-  closed-by-rules o2a o2b o3a o3b o4a o4b o5a o5b ps t (r5a a b d x y) named =
-      o5a (triple a dom b) (triple d sp a) (triple x d y) (refl, (refl, (refl, (refl, tt)))) named
-  closed-by-rules o2a o2b o3a o3b o4a o4b o5a o5b ps t (r5b a b d x y) named =
-      o5b (triple a range b) (triple d sp a) (triple x d y) (refl, (refl, (refl, (refl, tt)))) named
+-- a graph is closed where each of the rules is obeyed
+module _ (K : Algebra) (G : Graph)
+    (o2a : ObeyedByTwo K G rule-2a) (o2b : ObeyedByTwo K G rule-2b) (o3a : ObeyedByTwo K G rule-3a) (o3b : ObeyedByTwo K G rule-3b)
+    (o4a : ObeyedByTwo K G rule-4a) (o4b : ObeyedByTwo K G rule-4b) (o5a : ObeyedByThree K G rule-5a) (o5b : ObeyedByThree K G rule-5b) where
+  closed-by-rules : (ps : List Triple) (t : Triple) → Rule ps t → Drawn t → AtMost K (meetAll K G ps) (G t)
+  closed-by-rules ps t (r2a a b c) named = o2a (triple a sp b) (triple b sp c) (refl, (refl, (refl, tt))) named
+  closed-by-rules ps t (r2b d e x y) named = o2b (triple d sp e) (triple x d y) (refl, (refl, tt)) named
+  closed-by-rules ps t (r3a a b c) named = o3a (triple a sc b) (triple b sc c) (refl, (refl, (refl, tt))) named
+  closed-by-rules ps t (r3b a b x) named = o3b (triple a sc b) (triple x type a) (refl, (refl, (refl, tt))) named
+  closed-by-rules ps t (r4a d b x y) named = o4a (triple d dom b) (triple x d y) (refl, (refl, tt)) named
+  closed-by-rules ps t (r4b d b x y) named = o4b (triple d range b) (triple x d y) (refl, (refl, tt)) named
+  closed-by-rules ps t (r5a a b d x y) named = o5a (triple a dom b) (triple d sp a) (triple x d y) (refl, (refl, (refl, (refl, tt)))) named
+  closed-by-rules ps t (r5b a b d x y) named = o5b (triple a range b) (triple d sp a) (triple x d y) (refl, (refl, (refl, (refl, tt)))) named
 
 -- obeyed so far, or a conclusion to draw
 _>>=_ : {A B U : Type 0} → A ⊎ U → (A → B ⊎ U) → B ⊎ U
@@ -98,7 +89,7 @@ rules-decided K L rows v = do
   o4b ← obeyed-by-two K L Rule rows v rule-4b fits-4b
   o5a ← obeyed-by-three K L Rule rows v rule-5a fits-5a
   o5b ← obeyed-by-three K L Rule rows v rule-5b fits-5b
-  inl (record { closed = closed-by-rules K rows o2a o2b o3a o3b o4a o4b o5a o5b })
+  inl (record { closed = closed-by-rules K (graphOf rows) o2a o2b o3a o3b o4a o4b o5a o5b })
 
 -- each conclusion's terms are terms of the premises
 pub rules-keep-legal : KeepLegal Rule

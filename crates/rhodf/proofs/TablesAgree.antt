@@ -3,12 +3,12 @@
 use mathlib.Core.Path.{_≡_, refl, sym, ap, _∙_}
 use mathlib.Core.Bool.{Bool, true, false}
 use mathlib.Core.List.{List, [], _∷_}
-use Prim.Native.Nat.{ℕ, _<_}
+use Prim.Native.Nat.{ℕ}
 use native.Mathlib.Omega.{arith}
 use Rattle.annotation.specs.Kinds.{algebra}
 use Rattle.annotation.proofs.KindLaws.{laws}
 use Rattle.annotation.proofs.Legal.{legal-value}
-use Rattle.table.specs.Rows.{Triple, Row, row, key, isTriple, valueAt}
+use Rattle.table.specs.Rows.{Triple, Row, key, isTriple, valueAt}
 use Rattle.table.specs.Sound.{LegalRow, Over, Ascending, AllLegal, SoundRows}
 use Rattle.table.proofs.Ordering.{Tri, less, same, more, tri, over-down}
 use Rattle.table.proofs.Values.{tripleOf, is-triple, triple-is, key-tells, legal-small, first-value, value-here, value-there, over-value}

@@ -56,6 +56,9 @@ triple-is t x e =
     let b = all-three (eqb (x .s) (t .s)) (eqb (x .p) (t .p)) (eqb (x .o) (t .o)) e in
     record { same-s = eqb-true (x .s) (t .s) (b .0); same-p = eqb-true (x .p) (t .p) (b .1); same-o = eqb-true (x .o) (t .o) (b .2) }
 
+pub triple-tells : (t : Triple) (x : Row) → isTriple t x ≡ true → tripleOf x ≡ t
+triple-tells t x e = let b = triple-is t x e in λ i. triple (b .same-s i) (b .same-p i) (b .same-o i)
+
 not-true : (b : Bool) → (b ≡ true → ⊥) → b ≡ false
 not-true true h = absurd (h refl)
 not-true false h = refl
