@@ -3,19 +3,16 @@
 use mathlib.Core.Path.{_≡_, refl}
 use mathlib.Core.Bool.{Bool, true, false, Bool-discrete}
 use mathlib.Core.List.{List, [], _∷_}
-use mathlib.Core.Logic.{_⊎_, inl, inr, ⊎-map, Dec·and}
+use mathlib.Core.Logic.{_⊎_, inl, inr, Dec·and}
 use Prim.Native.Nat.{ℕ, _<_}
 use native.Mathlib.Decide.{ℕ-discrete}
 use native.Mathlib.Omega.{arith}
 use Rattle.annotation.specs.Algebra.{Algebra, AtMost, Laws}
-use Rattle.annotation.proofs.Order.{bottom-at-most}
 use Rattle.table.specs.Rows.{Triple, Row, isTriple, valueAt}
-use Rattle.table.proofs.Ordering.{Tri, less, same, more, tri}
 use Rattle.table.proofs.Values.{tripleOf, triple-tells, value-none, value-there}
 use Rattle.rhodf.specs.Graph.{Graph, graphOf, Valued, meetAll}
 use Rattle.rhodf.specs.Rules.{Rules, Drawn}
 use Rattle.rhodf.specs.Closure.{Closed}
-use Rattle.rhodf.proofs.Graphs.{AllHeld, premises-held}
 
 -- a conclusion that is to be drawn
 pub record ToDraw (K : Algebra) (R : Rules) (G : Graph) : Type 0 where
@@ -64,17 +61,19 @@ pub record OfThree : Type 0 where
   pub where-equal : Triple → Triple → Triple → List (ℕ × ℕ)
   pub gives : Triple → Triple → Triple → Triple
 
--- where the terms are equal, the conclusion t of the premises ps is at most its value
+-- where the terms are equal, the conclusion t of the premises ps is at most its value; so at all premises that hold
 abbrev Obeyed : Algebra → Graph → List (ℕ × ℕ) → List Triple → Triple → Type 0
 Obeyed K G es ps t = Agree es → Drawn t → AtMost K (meetAll K G ps) (G t)
 
 abbrev pub ObeyedByTwo : Algebra → Graph → OfTwo → Type 0
-ObeyedByTwo K G rule = (x y : Triple) → Obeyed K G (rule .where-equal x y) (x ∷ y ∷ []) (rule .gives x y)
+ObeyedByTwo K G rule = (x : Triple) → 0 < G x → (y : Triple) → 0 < G y → Obeyed K G (rule .where-equal x y) (x ∷ y ∷ []) (rule .gives x y)
 
 abbrev pub ObeyedByThree : Algebra → Graph → OfThree → Type 0
-ObeyedByThree K G rule = (x y z : Triple) → Obeyed K G (rule .where-equal x y z) (x ∷ y ∷ z ∷ []) (rule .gives x y z)
+ObeyedByThree K G rule =
+    (x : Triple) → 0 < G x → (y : Triple) → 0 < G y → (z : Triple) → 0 < G z
+    → Obeyed K G (rule .where-equal x y z) (x ∷ y ∷ z ∷ []) (rule .gives x y z)
 
-module _ (K : Algebra) (L : Laws K) (R : Rules) (rows : List Row) (v : Valued K (graphOf rows)) where
+module _ (K : Algebra) (R : Rules) (rows : List Row) where
   abbrev G : Graph
   G = graphOf rows
 
@@ -87,27 +86,11 @@ module _ (K : Algebra) (L : Laws K) (R : Rules) (rows : List Row) (v : Valued K 
       go (yes f) (yes n) (yes a) = inl (λ fit named. a)
       go (yes f) (yes n) (no a) = inr (record { premises = ps; conclusion = t; follows = rule f; named = n; above = a })
 
-  -- premises that do not all hold give bottom
-  where-held : (es : List (ℕ × ℕ)) (ps : List Triple) (t : Triple) → (AllHeld G ps → Obeyed K G es ps t) → Obeyed K G es ps t
-  where-held es ps t h = go (tri 0 (meetAll K G ps))
-    where
-      go : Tri 0 (meetAll K G ps) → Obeyed K G es ps t
-      go (less q) = h (premises-held K L G v ps q)
-      go (same q) = λ fit named. rw (← q) (bottom-at-most K L (G t))
-      go (more q) = absurd (omega arith)
-
   pub obeyed-by-two : (rule : OfTwo) → ((x y : Triple) → Agree (rule .where-equal x y) → R (x ∷ y ∷ []) (rule .gives x y))
       → ObeyedByTwo K G rule ⊎ ToDraw K R G
-  obeyed-by-two rule is =
-      ⊎-map
-      (λ f x y. where-held (rule .where-equal x y) (x ∷ y ∷ []) (rule .gives x y) (λ h. f x (h .0) y (h .1 .0)))
-      (λ u. u)
-      (every (λ x. every (λ y. obeyed-at (rule .where-equal x y) (x ∷ y ∷ []) (rule .gives x y) (is x y)) rows) rows)
+  obeyed-by-two rule is = every (λ x. every (λ y. obeyed-at (rule .where-equal x y) (x ∷ y ∷ []) (rule .gives x y) (is x y)) rows) rows
 
   pub obeyed-by-three : (rule : OfThree) → ((x y z : Triple) → Agree (rule .where-equal x y z) → R (x ∷ y ∷ z ∷ []) (rule .gives x y z))
       → ObeyedByThree K G rule ⊎ ToDraw K R G
   obeyed-by-three rule is =
-      ⊎-map
-      (λ f x y z. where-held (rule .where-equal x y z) (x ∷ y ∷ z ∷ []) (rule .gives x y z) (λ h. f x (h .0) y (h .1 .0) z (h .1 .1 .0)))
-      (λ u. u)
-      (every (λ x. every (λ y. every (λ z. obeyed-at (rule .where-equal x y z) (x ∷ y ∷ z ∷ []) (rule .gives x y z) (is x y z)) rows) rows) rows)
+      every (λ x. every (λ y. every (λ z. obeyed-at (rule .where-equal x y z) (x ∷ y ∷ z ∷ []) (rule .gives x y z) (is x y z)) rows) rows) rows

@@ -3,20 +3,32 @@ use mathlib.Core.Path.{_≡_}
 use mathlib.Core.Bool.{true}
 use mathlib.Core.List.{List, [], _∷_}
 use Prim.Native.Nat.{ℕ, _<_}
+use native.Mathlib.Omega.{arith}
 use Rattle.term.specs.Term.{isLegalTerm, isName}
-use Rattle.annotation.specs.Algebra.{Algebra, Laws}
+use Rattle.annotation.specs.Algebra.{Algebra, AtMost, Laws}
 use Rattle.annotation.specs.Kinds.{algebra}
 use Rattle.annotation.proofs.KindLaws.{laws}
 use Rattle.annotation.proofs.Legal.{value-legal}
-use Rattle.annotation.proofs.Order.{at-most-trans}
+use Rattle.annotation.proofs.Order.{at-most-trans, bottom-at-most}
 use Rattle.table.specs.Rows.{Triple, Row, row, addRow}
 use Rattle.table.specs.Sound.{LegalRow, Ascending, SoundRows}
+use Rattle.table.proofs.Ordering.{Tri, less, same, more, tri}
 use Rattle.table.proofs.Values.{Small, AllSmall, held-legal}
 use Rattle.rhodf.specs.Graph.{Graph, graphOf, Valued, meetAll}
 use Rattle.rhodf.specs.Rules.{Rules, Drawn}
-use Rattle.rhodf.specs.Closure.{Least}
+use Rattle.rhodf.specs.Closure.{Closed, Least}
 use Rattle.rhodf.proofs.Graphs.{AllHeld, below-trans, meet-all-value, meet-all-grows, premises-held}
 use Rattle.rhodf.proofs.Growing.{rows-valued, below-added, added-below}
+
+-- a graph is closed if the conclusions of premises that hold are at most their value: other premises give bottom
+pub closed-where-held : (K : Algebra) → Laws K → (R : Rules) (G : Graph) → Valued K G
+    → ((ps : List Triple) (t : Triple) → R ps t → AllHeld G ps → Drawn t → AtMost K (meetAll K G ps) (G t)) → Closed K R G
+closed-where-held K L R G v obeyed = record { closed = λ ps t rule named. go ps t rule named (tri 0 (meetAll K G ps)) }
+  where
+    go : (ps : List Triple) (t : Triple) → R ps t → Drawn t → Tri 0 (meetAll K G ps) → AtMost K (meetAll K G ps) (G t)
+    go ps t rule named (less h) = obeyed ps t rule (premises-held K L G v ps h) named
+    go ps t rule named (same e) = rw (← e) (bottom-at-most K L (G t))
+    go ps t rule named (more h) = absurd (omega arith)
 
 -- a conclusion with the And of its premises
 abbrev pub conclusionRow : Algebra → Graph → List Triple → Triple → Row

@@ -8,7 +8,8 @@ use Rattle.annotation.specs.Algebra.{Algebra, AtMost}
 use Rattle.table.specs.Rows.{Triple, triple}
 use Rattle.rhodf.specs.Graph.{Graph, graphOf, meetAll}
 use Rattle.rhodf.specs.Rules.{Drawn, Rule, r2a, r2b, r3a, r3b, r4a, r4b, r5a, r5b}
-use Rattle.rhodf.proofs.Drawing.{KeepLegal}
+use Rattle.rhodf.proofs.Graphs.{AllHeld}
+use Rattle.rhodf.proofs.Drawing.{KeepLegal, closed-where-held}
 use Rattle.rhodf.proofs.Deciding.{Decided, Agree, OfTwo, OfThree, ObeyedByTwo, ObeyedByThree, obeyed-by-two, obeyed-by-three}
 
 -- each rule, by the terms of its premises that are to be equal
@@ -64,15 +65,15 @@ fits-5b x y z f = rw (f .0, f .1 .0, f .1 .1 .0, f .1 .1 .1 .0) (r5b (x .s) (x .
 module _ (K : Algebra) (G : Graph)
     (o2a : ObeyedByTwo K G rule-2a) (o2b : ObeyedByTwo K G rule-2b) (o3a : ObeyedByTwo K G rule-3a) (o3b : ObeyedByTwo K G rule-3b)
     (o4a : ObeyedByTwo K G rule-4a) (o4b : ObeyedByTwo K G rule-4b) (o5a : ObeyedByThree K G rule-5a) (o5b : ObeyedByThree K G rule-5b) where
-  closed-by-rules : (ps : List Triple) (t : Triple) → Rule ps t → Drawn t → AtMost K (meetAll K G ps) (G t)
-  closed-by-rules ps t (r2a a b c) named = o2a (triple a sp b) (triple b sp c) (refl, (refl, (refl, tt))) named
-  closed-by-rules ps t (r2b d e x y) named = o2b (triple d sp e) (triple x d y) (refl, (refl, tt)) named
-  closed-by-rules ps t (r3a a b c) named = o3a (triple a sc b) (triple b sc c) (refl, (refl, (refl, tt))) named
-  closed-by-rules ps t (r3b a b x) named = o3b (triple a sc b) (triple x type a) (refl, (refl, (refl, tt))) named
-  closed-by-rules ps t (r4a d b x y) named = o4a (triple d dom b) (triple x d y) (refl, (refl, tt)) named
-  closed-by-rules ps t (r4b d b x y) named = o4b (triple d range b) (triple x d y) (refl, (refl, tt)) named
-  closed-by-rules ps t (r5a a b d x y) named = o5a (triple a dom b) (triple d sp a) (triple x d y) (refl, (refl, (refl, (refl, tt)))) named
-  closed-by-rules ps t (r5b a b d x y) named = o5b (triple a range b) (triple d sp a) (triple x d y) (refl, (refl, (refl, (refl, tt)))) named
+  closed-by-rules : (ps : List Triple) (t : Triple) → Rule ps t → AllHeld G ps → Drawn t → AtMost K (meetAll K G ps) (G t)
+  closed-by-rules ps t (r2a a b c) h named = o2a (triple a sp b) (h .0) (triple b sp c) (h .1 .0) (refl, (refl, (refl, tt))) named
+  closed-by-rules ps t (r2b d e x y) h named = o2b (triple d sp e) (h .0) (triple x d y) (h .1 .0) (refl, (refl, tt)) named
+  closed-by-rules ps t (r3a a b c) h named = o3a (triple a sc b) (h .0) (triple b sc c) (h .1 .0) (refl, (refl, (refl, tt))) named
+  closed-by-rules ps t (r3b a b x) h named = o3b (triple a sc b) (h .0) (triple x type a) (h .1 .0) (refl, (refl, (refl, tt))) named
+  closed-by-rules ps t (r4a d b x y) h named = o4a (triple d dom b) (h .0) (triple x d y) (h .1 .0) (refl, (refl, tt)) named
+  closed-by-rules ps t (r4b d b x y) h named = o4b (triple d range b) (h .0) (triple x d y) (h .1 .0) (refl, (refl, tt)) named
+  closed-by-rules ps t (r5a a b d x y) h named = o5a (triple a dom b) (h .0) (triple d sp a) (h .1 .0) (triple x d y) (h .1 .1 .0) (refl, (refl, (refl, (refl, tt)))) named
+  closed-by-rules ps t (r5b a b d x y) h named = o5b (triple a range b) (h .0) (triple d sp a) (h .1 .0) (triple x d y) (h .1 .1 .0) (refl, (refl, (refl, (refl, tt)))) named
 
 -- obeyed so far, or a conclusion to draw
 _>>=_ : {A B U : Type 0} → A ⊎ U → (A → B ⊎ U) → B ⊎ U
@@ -81,15 +82,15 @@ _>>=_ (inr u) f = inr u
 
 pub rules-decided : Decided Rule
 rules-decided K L rows v = do
-  o2a ← obeyed-by-two K L Rule rows v rule-2a fits-2a
-  o2b ← obeyed-by-two K L Rule rows v rule-2b fits-2b
-  o3a ← obeyed-by-two K L Rule rows v rule-3a fits-3a
-  o3b ← obeyed-by-two K L Rule rows v rule-3b fits-3b
-  o4a ← obeyed-by-two K L Rule rows v rule-4a fits-4a
-  o4b ← obeyed-by-two K L Rule rows v rule-4b fits-4b
-  o5a ← obeyed-by-three K L Rule rows v rule-5a fits-5a
-  o5b ← obeyed-by-three K L Rule rows v rule-5b fits-5b
-  inl (record { closed = closed-by-rules K (graphOf rows) o2a o2b o3a o3b o4a o4b o5a o5b })
+  o2a ← obeyed-by-two K Rule rows rule-2a fits-2a
+  o2b ← obeyed-by-two K Rule rows rule-2b fits-2b
+  o3a ← obeyed-by-two K Rule rows rule-3a fits-3a
+  o3b ← obeyed-by-two K Rule rows rule-3b fits-3b
+  o4a ← obeyed-by-two K Rule rows rule-4a fits-4a
+  o4b ← obeyed-by-two K Rule rows rule-4b fits-4b
+  o5a ← obeyed-by-three K Rule rows rule-5a fits-5a
+  o5b ← obeyed-by-three K Rule rows rule-5b fits-5b
+  inl (closed-where-held K L Rule (graphOf rows) v (closed-by-rules K (graphOf rows) o2a o2b o3a o3b o4a o4b o5a o5b))
 
 -- each conclusion's terms are terms of the premises
 pub rules-keep-legal : KeepLegal Rule
