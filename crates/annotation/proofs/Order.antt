@@ -1,6 +1,7 @@
 -- "At most" is an order in which Join is the least upper bound and And is monotone: from `Laws` alone. Assumes nothing.
 use mathlib.Core.Path.{_≡_, refl, sym, ap, _∙_}
 use Prim.Native.Nat.{ℕ, _<_, _≤_}
+use native.Mathlib.Decide.{decLt}
 use native.Mathlib.Omega.{arith}
 use Rattle.annotation.specs.Algebra.{Algebra, AtMost, Laws}
 
@@ -47,3 +48,15 @@ module _ (K : Algebra) (L : Laws K) where
   -- joining gives the same or a larger number
   pub join-raises : (a b : ℕ) → (K .join a b ≡ a → ⊥) → a < K .join a b
   join-raises a b h = omega (arith, L .join-grows a b)
+
+  -- an And other than bottom is of two other than bottom
+  pub meet-not-bottom : (a b : ℕ) → K .Value a → K .Value b → 0 < K .meet a b → (0 < a) × (0 < b)
+  meet-not-bottom a b va vb h = (left (decLt 0 a), right (decLt 0 b))
+    where
+      left : Dec (0 < a) → 0 < a
+      left (yes q) = q
+      left (no q) = let e : a ≡ 0 = omega arith in absurd (omega (arith, rw (e, L .meet-comm 0 b, L .meet-bottom b vb) at h))
+
+      right : Dec (0 < b) → 0 < b
+      right (yes q) = q
+      right (no q) = let e : b ≡ 0 = omega arith in absurd (omega (arith, rw (e, L .meet-bottom a va) at h))

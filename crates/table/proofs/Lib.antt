@@ -4,6 +4,7 @@ pub mod Opening
 pub mod Inserting
 pub mod Ordering
 pub mod Values
+pub mod Totals
 pub mod Soundness
 pub mod Judging
 pub mod Putting

@@ -8,7 +8,7 @@ use Rattle.table.specs.Rows.{Lanes, lanes, row, triple, keyOf, keyAt, ro
 use Rattle.table.specs.Sound.{Sound}
 use Rattle.table.specs.Places.{Ordered, Placed, Halving, Halved}
 use Rattle.table.proofs.Ordering.{Tri, less, same, more, tri, climbs}
-use Rattle.table.proofs.Values.{Small, SameTriple, legal-small, key-tells, is-triple, value-at, value-missing}
+use Rattle.table.proofs.Values.{Small, legal-small, key-tells, is-triple, value-at, value-missing}
 
 module _ (S P O : List ℕ) (n k low high : ℕ) (h : Halving S P O n k low high) where
   abbrev middle : ℕ

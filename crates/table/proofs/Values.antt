@@ -8,7 +8,7 @@ use lib.Dec.{eqb}
 use borrow.Author.Tests.{eq-eqb, eqb-true}
 use Rattle.annotation.specs.Algebra.{Algebra, Laws}
 use Rattle.term.proofs.Sorts.{legal-below, name-below}
-use Rattle.table.specs.Rows.{Triple, Row, triple, key, keyOf, joined, addRow, isTriple, valueAt, tab}
+use Rattle.table.specs.Rows.{Triple, Row, triple, row, key, keyOf, joined, addRow, isTriple, valueAt, tab}
 use Rattle.table.specs.Sound.{LegalRow, Over, Ascending, AllLegal}
 use Rattle.table.proofs.Ordering.{Tri, less, same, more, tri, add-none, add-less, add-same, add-more, over-down}
 
@@ -45,26 +45,30 @@ all-three false b c h = absurd (true≢false (sym h))
 pub is-triple : (t : Triple) (x : Row) → x .s ≡ t .s → x .p ≡ t .p → x .o ≡ t .o → isTriple t x ≡ true
 is-triple t x es ep eo = rw (eq-eqb (x .s) (t .s) es, eq-eqb (x .p) (t .p) ep, eq-eqb (x .o) (t .o) eo) refl
 
+-- a row of a triple
+pub record RowOf (t : Triple) (x : Row) : Type 0 where
+  pub same-s : x .s ≡ t .s
+  pub same-p : x .p ≡ t .p
+  pub same-o : x .o ≡ t .o
+
+pub triple-is : (t : Triple) (x : Row) → isTriple t x ≡ true → RowOf t x
+triple-is t x e =
+    let b = all-three (eqb (x .s) (t .s)) (eqb (x .p) (t .p)) (eqb (x .o) (t .o)) e in
+    record { same-s = eqb-true (x .s) (t .s) (b .0); same-p = eqb-true (x .p) (t .p) (b .1); same-o = eqb-true (x .o) (t .o) (b .2) }
+
+pub triple-tells : (t : Triple) (x : Row) → isTriple t x ≡ true → tripleOf x ≡ t
+triple-tells t x e = let b = triple-is t x e in λ i. triple (b .same-s i) (b .same-p i) (b .same-o i)
+
 not-true : (b : Bool) → (b ≡ true → ⊥) → b ≡ false
 not-true true h = absurd (h refl)
 not-true false h = refl
 
 -- another key is another triple
 pub not-triple : (t : Triple) (x : Row) → (key x ≡ keyOf (t .s) (t .p) (t .o) → ⊥) → isTriple t x ≡ false
-not-triple t x h = not-true (isTriple t x) (λ e.
-    let b = all-three (eqb (x .s) (t .s)) (eqb (x .p) (t .p)) (eqb (x .o) (t .o)) e in
-    let es = eqb-true (x .s) (t .s) (b .0) in
-    let ep = eqb-true (x .p) (t .p) (b .1) in
-    let eo = eqb-true (x .o) (t .o) (b .2) in
-    h (rw (es, ep, eo) refl))
+not-triple t x h = not-true (isTriple t x) (λ e. let b = triple-is t x e in h (rw (b .same-s, b .same-p, b .same-o) refl))
 
 -- equal keys of small rows are equal triples
-pub record SameTriple (x r : Row) : Type 0 where
-  pub same-s : x .s ≡ r .s
-  pub same-p : x .p ≡ r .p
-  pub same-o : x .o ≡ r .o
-
-pub key-tells : (x r : Row) → Small x → Small r → key x ≡ key r → SameTriple x r
+pub key-tells : (x r : Row) → Small x → Small r → key x ≡ key r → RowOf (tripleOf r) x
 key-tells x r sx sr e = record { same-s = omega arith; same-p = omega arith; same-o = omega arith }
 
 pub value-none : (t : Triple) → valueAt [] t ≡ 0
@@ -79,6 +83,9 @@ module _ (x : Row) (xs : List Row) (t : Triple) where
   pub value-there : isTriple t x ≡ false → valueAt (x ∷ xs) t ≡ valueAt xs t
   unfolding valueAt
   value-there h = rw h refl
+
+pub first-value : (x : Row) (xs : List Row) → valueAt (x ∷ xs) (tripleOf x) ≡ x .a
+first-value x xs = value-here x xs (tripleOf x) (is-triple (tripleOf x) x refl refl refl)
 
 value-tail : (x : Row) (xs ys : List Row) (t : Triple) → valueAt xs t ≡ valueAt ys t → valueAt (x ∷ xs) t ≡ valueAt (x ∷ ys) t
 unfolding valueAt
@@ -141,3 +148,15 @@ value-missing zero f t h = value-none t
 value-missing (suc n) f t h =
     value-there (f zero) (tab n (λ i. f (suc i))) t (not-triple t (f zero) (h zero (omega arith)))
     ∙ value-missing n (λ i. f (suc i)) t (λ i q. h (suc i) (omega arith))
+
+-- a triple that legal rows hold is, with its annotation, a legal row
+pub held-legal : (kind : ℕ) (R : List Row) → AllLegal kind R → (t : Triple) → 0 < valueAt R t
+    → LegalRow kind (row (t .s) (t .p) (t .o) (valueAt R t))
+unfolding AllLegal
+held-legal kind [] w t h = absurd (omega (arith, value-none t))
+held-legal kind (x ∷ xs) w t h = go (isTriple t x) refl (held-legal kind xs (w .1) t)
+  where
+    go : (b : Bool) → isTriple t x ≡ b → (0 < valueAt xs t → LegalRow kind (row (t .s) (t .p) (t .o) (valueAt xs t)))
+        → LegalRow kind (row (t .s) (t .p) (t .o) (valueAt (x ∷ xs) t))
+    go true e later = let b = triple-is t x e in rw (value-here x xs t e, ← b .same-s, ← b .same-p, ← b .same-o) (w .0)
+    go false e later = rw (value-there x xs t e) (later (rw (value-there x xs t e) at h))

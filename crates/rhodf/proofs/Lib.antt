@@ -1,0 +1,15 @@
+-- The order of graphs, the graph of rows with a row added, and drawing a conclusion.
+pub mod Graphs
+pub mod Growing
+pub mod Drawing
+-- What is shown of closures, for every set of rules.
+pub mod LeastAgree
+pub mod TablesAgree
+pub mod ClosedStays
+pub mod Larger
+pub mod NoMoreRows
+pub mod Deciding
+pub mod ExistsFor
+-- What is shown for the rules of rho-df.
+pub mod RulesDecided
+pub mod Exists

@@ -1,0 +1,33 @@
+-- The rules (document 000, table 2): the premises and the conclusion of each.
+use mathlib.Core.Path.{_≡_}
+use mathlib.Core.Bool.{true}
+use mathlib.Core.List.{List, [], _∷_}
+use Prim.Native.Nat.{ℕ}
+use Rattle.term.specs.Term.{sp, sc, type, dom, range, isName}
+use Rattle.table.specs.Rows.{Triple, triple}
+
+-- a set of rules: which premises give which conclusion
+abbrev pub Rules : Type 1
+Rules = List Triple → Triple → Type 0
+
+pub data Rule : List Triple → Triple → Type 0 where
+  -- "2a (A sp B), (B sp C) gives (A sp C)"
+  r2a : (a b c : ℕ) → Rule (triple a sp b ∷ triple b sp c ∷ []) (triple a sp c)
+  -- "2b (D sp E), (X D Y) gives (X E Y)"
+  r2b : (d e x y : ℕ) → Rule (triple d sp e ∷ triple x d y ∷ []) (triple x e y)
+  -- "3a (A sc B), (B sc C) gives (A sc C)"
+  r3a : (a b c : ℕ) → Rule (triple a sc b ∷ triple b sc c ∷ []) (triple a sc c)
+  -- "3b (A sc B), (X type A) gives (X type B)"
+  r3b : (a b x : ℕ) → Rule (triple a sc b ∷ triple x type a ∷ []) (triple x type b)
+  -- "4a (D dom B), (X D Y) gives (X type B)"
+  r4a : (d b x y : ℕ) → Rule (triple d dom b ∷ triple x d y ∷ []) (triple x type b)
+  -- "4b (D range B), (X D Y) gives (Y type B)"
+  r4b : (d b x y : ℕ) → Rule (triple d range b ∷ triple x d y ∷ []) (triple y type b)
+  -- "5a (A dom B), (D sp A), (X D Y) gives (X type B)"
+  r5a : (a b d x y : ℕ) → Rule (triple a dom b ∷ triple d sp a ∷ triple x d y ∷ []) (triple x type b)
+  -- "5b the same with range and (Y type B)"
+  r5b : (a b d x y : ℕ) → Rule (triple a range b ∷ triple d sp a ∷ triple x d y ∷ []) (triple y type b)
+
+-- "A conclusion whose predicate isn't a name is not drawn" (nor one whose annotation is 0, which is at most anything)
+abbrev pub Drawn : Triple → Type 0
+Drawn t = isName (t .p) ≡ true
