@@ -1,0 +1,2 @@
+-- The definitions that the contracts of `closing` cite.
+pub mod Plans
