@@ -1,2 +1,3 @@
 -- Laws that belong to no one function, bottom to top.
 pub mod Obeying
+pub mod Stepping

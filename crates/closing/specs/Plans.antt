@@ -36,7 +36,7 @@ planOf rule x d y a =
 
 -- what a partner row with the object z gives
 abbrev pub gives : Plan → ℕ → Triple
-gives plan z = cond (plan .as_predicate) (triple (plan .s) z (plan .o)) (triple (plan .s) (plan .p) z)
+gives plan z = triple (plan .s) (cond (plan .as_predicate) z (plan .p)) (cond (plan .as_predicate) (plan .o) z)
 
 -- in a graph, what every partner row gives is at most its value
 pub record Obeyed (K : Algebra) (G : Graph) (plan : Plan) : Type 0 where

@@ -160,3 +160,27 @@ held-legal kind (x ∷ xs) w t h = go (isTriple t x) refl (held-legal kind xs (w
         → LegalRow kind (row (t .s) (t .p) (t .o) (valueAt (x ∷ xs) t))
     go true e later = let b = triple-is t x e in rw (value-here x xs t e, ← b .same-s, ← b .same-p, ← b .same-o) (w .0)
     go false e later = rw (value-there x xs t e) (later (rw (value-there x xs t e) at h))
+
+-- a triple that the rows hold is a row of theirs
+pub record RowHeld (n : ℕ) (f : ℕ → Row) (t : Triple) : Type 0 where
+  pub at : ℕ
+  pub within : at < n
+  pub is-row : RowOf t (f at)
+  pub value-is : valueAt (tab n f) t ≡ f at .a
+
+pub held-row : (n : ℕ) (f : ℕ → Row) (t : Triple) → 0 < valueAt (tab n f) t → RowHeld n f t
+unfolding tab
+held-row zero f t h = absurd (omega (arith, value-none t))
+held-row (suc n) f t h = go (isTriple t (f zero)) refl (held-row n (λ i. f (suc i)) t)
+  where
+    go : (b : Bool) → isTriple t (f zero) ≡ b → (0 < valueAt (tab n (λ i. f (suc i))) t → RowHeld n (λ i. f (suc i)) t) → RowHeld (suc n) f t
+    go true e again = record {
+      at = zero;
+      within = omega arith;
+      is-row = triple-is t (f zero) e;
+      value-is = value-here (f zero) (tab n (λ i. f (suc i))) t e;
+    }
+    go false e again =
+        let same = value-there (f zero) (tab n (λ i. f (suc i))) t e in
+        let r = again (rw same at h) in
+        record { at = suc (r .at); within = omega (arith, r .within); is-row = r .is-row; value-is = same ∙ r .value-is }
