@@ -1,3 +1,4 @@
 -- Laws that belong to no one function, bottom to top.
 pub mod Obeying
 pub mod Stepping
+pub mod Walking
