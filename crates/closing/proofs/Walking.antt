@@ -272,6 +272,26 @@ module _ (kind : ℕ) (plan : Plan) (l : Lanes) (n : ℕ) (c : Behind kind plan 
         (a .passed z);
   }
 
+-- the next partner row, or further row
+module _ (kind : ℕ) (plan : Plan) {l : Lanes} {n at : ℕ} {m : Lanes} {changed : Bool} {n₁ i : ℕ} {b : Bool} where
+  pub along-partner : Straight kind plan l n → Along kind (PartnerIn kind plan) l n at m changed n₁ i → Begins (m .subj) (m .pred) n₁ i (plan .q) (plan .r) b → b ≡ true
+      → Partner kind plan m n₁ i
+  along-partner c a e t = record {
+    planned = record { planned = planned-later kind plan l n m changed n₁ (c .planned) (a .step); on = c .on; straight = c .straight };
+    there = e .there t .0;
+    subject = e .there t .1;
+    predicate = e .there t .2;
+  }
+
+  pub along-further : Behind kind plan l n → Along kind (FurtherIn kind plan) l n at m changed n₁ i → Begins (m .subj) (m .pred) n₁ i (plan .q) sp b → b ≡ true
+      → Further kind plan m n₁ i
+  along-further c a e t = record {
+    planned = record { planned = planned-later kind plan l n m changed n₁ (c .planned) (a .step); on = c .on; behind = c .behind };
+    there = e .there t .0;
+    subject = e .there t .1;
+    predicate = e .there t .2;
+  }
+
 -- a turn of the walk, and a walk that finds no room
 module _ (kind : ℕ) (P : Lanes → ℕ → ℕ → Type 0) {l : Lanes} {n at : ℕ} {m : Lanes} {changed : Bool} {n₁ i : ℕ} (a : Along kind P l n at m changed n₁ i)
     {m₂ : Lanes} {full c₂ : Bool} {n₂ : ℕ} (s : Step kind m n₁ m₂ full c₂ n₂) {c₃ : Bool} (e : Either changed c₂ c₃) where

@@ -2,3 +2,4 @@
 // Refused here: what the table check refuses, and a closure that has more rows than the lanes (12).
 
 pub mod plans;
+pub mod walks;
