@@ -2,3 +2,4 @@
 pub mod Obeying
 pub mod Stepping
 pub mod Walking
+pub mod Rounding

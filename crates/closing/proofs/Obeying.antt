@@ -32,6 +32,25 @@ module _ (K : Algebra) (L : Laws K) (G : Graph) (v : Valued K G) (t u w : Triple
   meet-row-third : K .meet (K .meet (G t) (G u)) (G w) ≡ meetAll K G (w ∷ u ∷ t ∷ [])
   meet-row-third = L .meet-comm (K .meet (G t) (G u)) (G w) ∙ ap (K .meet (G w)) meet-row-last
 
+-- what holds of the plan of each rule holds of every plan
+chosen : (P : Plan → Type 0) (b : Bool) {m n : Plan} → P m → P n → P (cond b m n)
+chosen P true h k = h
+chosen P false h k = k
+
+pub each-plan : (P : Plan → Type 0) (rule x d y a : ℕ)
+    → P (plain (eqb d sp) y sp x sp a) → P (renaming d x y a) → P (plain (eqb d sc) y sc x sc a) → P (plain (eqb d type) y sc x type a)
+    → P (plain true d dom x type a) → P (plain true d range y type a) → P (through d dom x type a) → P (through d range y type a)
+    → P (planOf rule x d y a)
+unfolding planOf
+each-plan P rule x d y a p2a p2b p3a p3b p4a p4b p5a p5b =
+    chosen P (eqb rule 0) p2a
+    (chosen P (eqb rule 1) p2b
+    (chosen P (eqb rule 2) p3a
+    (chosen P (eqb rule 3) p3b
+    (chosen P (eqb rule 4) p4a
+    (chosen P (eqb rule 5) p4b
+    (chosen P (eqb rule 6) p5a p5b))))))
+
 -- the plans of the rules
 plain-obeyed : (K : Algebra) (G : Graph) (on : Bool) (q r s p a : ℕ)
     → (on ≡ true → (z : ℕ) → Drawn (triple s p z) → AtMost K (K .meet a (G (triple q r z))) (G (triple s p z))) → Obeyed K G (plain on q r s p a)
@@ -91,19 +110,7 @@ module _ (K : Algebra) (L : Laws K) (G : Graph) (v : Valued K G) (c : Closed K R
   obeyed-5b = through-obeyed K G d range y type a (λ w z. third-premise (triple d sp w) (triple w range z) (triple y type z) (r5b w z d x y))
 
   pub closed-obeys : (rule : ℕ) → Obeyed K G (planOf rule x d y a)
-  unfolding planOf
-  closed-obeys rule =
-      choose (eqb rule 0) obeyed-2a
-      (choose (eqb rule 1) obeyed-2b
-      (choose (eqb rule 2) obeyed-3a
-      (choose (eqb rule 3) obeyed-3b
-      (choose (eqb rule 4) obeyed-4a
-      (choose (eqb rule 5) obeyed-4b
-      (choose (eqb rule 6) obeyed-5a obeyed-5b))))))
-    where
-      choose : (b : Bool) {m n : Plan} → Obeyed K G m → Obeyed K G n → Obeyed K G (cond b m n)
-      choose true h k = h
-      choose false h k = k
+  closed-obeys rule = each-plan (Obeyed K G) rule x d y a obeyed-2a obeyed-2b obeyed-3a obeyed-3b obeyed-4a obeyed-4b obeyed-5a obeyed-5b
 
 -- a graph whose triples' plans are obeyed is closed
 abbrev pub AllObeyed : Algebra → Graph → Type 0

@@ -182,6 +182,13 @@ planned-later kind plan l n m c n₁ p s = record {
   sure = λ H h. p .sure H (above-before kind (rowsOf l n) (rowsOf m n₁) (s .up) H h);
 }
 
+-- a rule that does not fit the row draws nothing
+pub walked-off : (kind : ℕ) (plan : Plan) (l : Lanes) (n : ℕ) → Planned kind plan l n → plan .on ≡ false → Walked kind plan l n l false false n
+walked-off kind plan l n p off = record {
+  step = step-none kind l n (p .sound);
+  inside = λ f z. record { straight = λ x y. absurd (true≢false (sym x ∙ off)); behind = λ x y. absurd (true≢false (sym x ∙ off)) };
+}
+
 -- a loop over the rows that begin alike, at row i: every row passed obeys P, if nothing changed
 pub record Along (kind : ℕ) (P : Lanes → ℕ → ℕ → Type 0) (l : Lanes) (n at : ℕ) (m : Lanes) (changed : Bool) (n₁ i : ℕ) : Type 0 where
   pub step : Step kind l n m false changed n₁
@@ -302,5 +309,8 @@ module _ (kind : ℕ) (P : Lanes → ℕ → ℕ → Type 0) {l : Lanes} {n at :
     passed = turn-all kind P (a .step) (a .passed) e (inside f);
   }
 
+  pub along-over : full ≡ true → Step kind l n m₂ true c₃ n₂
+  along-over f = rw (← f) (step-then kind (a .step) s e)
+
   pub along-full : (plan : Plan) → full ≡ true → Walked kind plan l n m₂ true c₃ n₂
-  along-full plan f = record { step = rw (← f) (step-then kind (a .step) s e); inside = λ z. absurd (true≢false z) }
+  along-full plan f = record { step = along-over f; inside = λ z. absurd (true≢false z) }

@@ -127,3 +127,85 @@ fn walk(
         count: n,
     }
 }
+
+// Draws what the partner rows behind the further row i give.
+fn draw_further(
+    kind: u8,
+    subj: &mut [u16],
+    pred: &mut [u16],
+    obj: &mut [u16],
+    ann: &mut [u64],
+    count: usize,
+    i: usize,
+    plan: Plan,
+) -> PutDone
+    requires { ⌜ Further kind plan (lanes (now subj) (now pred) (now obj) (now ann)) count i ⌝ }
+    ensures { λ r. ⌜ FurtherDrawn kind plan (lanes (now (subj .entry)) (now (pred .entry)) (now (obj .entry)) (now (ann .entry))) count i (lanes (now (subj .exit)) (now (pred .exit)) (now (obj .exit)) (now (ann .exit))) (r .full) (r .changed) (r .count) ⌝ }
+{
+    let q = obj[i];
+    let a = meet(kind, plan.a, ann[i]);
+    let behind = plain_plan(true, q, plan.r, plan.s, plan.p, a);
+    walk(kind, subj, pred, obj, ann, count, behind)
+}
+
+// Every further row of a plan, one after another.
+fn walk_further(
+    kind: u8,
+    subj: &mut [u16],
+    pred: &mut [u16],
+    obj: &mut [u16],
+    ann: &mut [u64],
+    count: usize,
+    plan: Plan,
+) -> PutDone
+    requires { ⌜ Behind kind plan (lanes (now subj) (now pred) (now obj) (now ann)) count ⌝ }
+    ensures { λ r. ⌜ Walked kind plan (lanes (now (subj .entry)) (now (pred .entry)) (now (obj .entry)) (now (ann .entry))) count (lanes (now (subj .exit)) (now (pred .exit)) (now (obj .exit)) (now (ann .exit))) (r .full) (r .changed) (r .count) ⌝ }
+{
+    let mut n = count;
+    let mut changed = false;
+    let mut i = find(subj, pred, obj, count, key_of(plan.q, SP, 0));
+    while begins(subj, pred, n, i, plan.q, SP) {
+        let done = draw_further(kind, subj, pred, obj, ann, n, i, plan);
+        n = done.count;
+        changed = either(changed, done.changed);
+        if done.full {
+            return PutDone {
+                full: true,
+                changed,
+                count: n,
+            };
+        }
+        i += 1;
+    }
+    PutDone {
+        full: false,
+        changed,
+        count: n,
+    }
+}
+
+// Carries out a plan.
+pub fn pursue(
+    kind: u8,
+    subj: &mut [u16],
+    pred: &mut [u16],
+    obj: &mut [u16],
+    ann: &mut [u64],
+    count: usize,
+    plan: Plan,
+) -> PutDone
+    requires { ⌜ Planned kind plan (lanes (now subj) (now pred) (now obj) (now ann)) count ⌝ }
+    ensures { λ r. ⌜ Walked kind plan (lanes (now (subj .entry)) (now (pred .entry)) (now (obj .entry)) (now (ann .entry))) count (lanes (now (subj .exit)) (now (pred .exit)) (now (obj .exit)) (now (ann .exit))) (r .full) (r .changed) (r .count) ⌝ }
+{
+    if plan.on {
+        if plan.further {
+            return walk_further(kind, subj, pred, obj, ann, count, plan);
+        }
+        return walk(kind, subj, pred, obj, ann, count, plan);
+    }
+    PutDone {
+        full: false,
+        changed: false,
+        count,
+    }
+}
