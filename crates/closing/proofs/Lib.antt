@@ -3,3 +3,5 @@ pub mod Obeying
 pub mod Stepping
 pub mod Walking
 pub mod Rounding
+pub mod Wiping
+pub mod Whole

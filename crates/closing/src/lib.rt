@@ -1,7 +1,56 @@
-// Closing a table under the rules of rho-df.
+// Closing a table under the rules of rho-df: rounds over all rows until one changes nothing.
 // Refused here: what the table check refuses, and a closure that has more rows than the lanes (12).
+ghost use Rattle.table.specs.Rows.{lanes};
+ghost use Rattle.closing.specs.Closing.{Closing};
 
 pub mod plans;
 pub mod rest;
 pub mod rounds;
 pub mod walks;
+
+use rest::wipe_past;
+use rounds::saturate;
+use table::put::wipe;
+
+pub struct CloseDone {
+    pub number: u8,
+    pub place: usize,
+    pub count: usize,
+}
+
+// Closes the table, or refuses it and changes nothing; where the closure has no room, all rows are zero.
+pub fn close(
+    kind: u8,
+    subj: &mut [u16],
+    pred: &mut [u16],
+    obj: &mut [u16],
+    ann: &mut [u64],
+    count: usize,
+) -> CloseDone
+    ensures { λ r. ⌜ Closing kind (lanes (now (subj .entry)) (now (pred .entry)) (now (obj .entry)) (now (ann .entry))) count (lanes (now (subj .exit)) (now (pred .exit)) (now (obj .exit)) (now (ann .exit))) (r .number) (r .place) (r .count) ⌝ }
+{
+    let table = table::check(kind, subj, pred, obj, ann, count);
+    if table.number > 0 {
+        return CloseDone {
+            number: table.number,
+            place: table.place,
+            count,
+        };
+    }
+    let reached = saturate(kind, subj, pred, obj, ann, count);
+    if reached.full {
+        wipe(subj, pred, obj, ann);
+        return CloseDone {
+            number: table::NO_ROOM,
+            place: 0,
+            count: 0,
+        };
+    }
+    let rows = reached.count;
+    wipe_past(subj, pred, obj, ann, rows);
+    CloseDone {
+        number: 0,
+        place: 0,
+        count: rows,
+    }
+}

@@ -1,0 +1,99 @@
+-- The whole of closing: what saturating leaves is the closure, or its closure does not fit. Assumes nothing.
+use mathlib.Core.Path.{_≡_, refl, sym, ap, _∙_}
+use mathlib.Core.Bool.{Bool, true, false}
+use mathlib.Core.List.{List}
+use Prim.Native.Nat.{ℕ, _≤_, _<_}
+use native.Mathlib.Omega.{arith}
+use lib.ListN.{length}
+use Rattle.term.specs.Refusal.{verdict, done, first}
+use Rattle.term.specs.declared.refusal.Verdict.{Verdict}
+use Rattle.term.proofs.Firsts.{first-done}
+use Rattle.annotation.specs.Kinds.{algebra}
+use Rattle.table.specs.Rows.{Row, Lanes, rowsOf, rowAt, zeroed, filled}
+use Rattle.table.specs.Checks.{tableChecks}
+use Rattle.table.specs.Sound.{Sound}
+use Rattle.table.specs.Places.{RowsWithin}
+use Rattle.table.proofs.Judging.{table-numbered}
+use Rattle.table.proofs.Soundness.{passes-sound, sound-passes, sound-list, sound-rows-within}
+use Rattle.table.proofs.Tab.{tab-length}
+use Rattle.rhodf.specs.Graph.{graphOf}
+use Rattle.rhodf.specs.Rules.{Rule}
+use Rattle.rhodf.specs.Closure.{ClosureOf}
+use Rattle.rhodf.proofs.Growing.{rows-valued}
+use Rattle.rhodf.proofs.TablesAgree.{closures-equal}
+use Rattle.rhodf.proofs.NoMoreRows.{below-no-more-rows}
+use Rattle.closing.specs.Steps.{Saturated}
+use Rattle.closing.specs.Closing.{Closing}
+
+-- a sound table passes the check
+not-refused : (kind : ℕ) (l : Lanes) (n : ℕ) → Sound kind l n → 0 < first (tableChecks kind l n) .number → ⊥
+not-refused kind l n s h = omega (arith, ap (λ (v : Verdict). v .number) (sound-passes kind l n s))
+
+module _ (kind : ℕ) (l : Lanes) (n : ℕ) (v : Verdict) (e : v ≡ first (tableChecks kind l n)) where
+  pub closing-refused : 0 < v .number → Closing kind l n l (v .number) (v .place) n
+  closing-refused h = record {
+    refused = λ q. (e, refl, refl);
+    fits = λ s. absurd (not-refused kind l n s (rw (← e) h));
+    no-room = λ s. absurd (not-refused kind l n s (rw (← e) h));
+  }
+
+  pub closing-sound : v .number ≤ 0 → Sound kind l n
+  closing-sound z =
+      passes-sound kind l n (first-done (tableChecks kind l n) (table-numbered kind l n) (ap (λ (w : Verdict). w .number) (sym e) ∙ omega arith))
+
+module _ (kind : ℕ) (l : Lanes) (n : ℕ) (sound : Sound kind l n) (m : Lanes) (full : Bool) (n′ : ℕ) (s : Saturated kind l n m full n′) where
+  -- where no row lacked room, the rows are the closure
+  the-closure : full ≡ false → ClosureOf kind Rule (rowsOf l n) (rowsOf m n′)
+  the-closure f = record {
+    sound = sound-list kind m n′ (s .sound);
+    is-least = record {
+      valued = rows-valued kind (rowsOf m n′) (sound-list kind m n′ (s .sound));
+      is-closed = s .closed f;
+      holds = s .up;
+      least = λ H w c b. s .entailed H (w, c, b);
+    };
+  }
+
+  -- where one did, the closure has more rows than the lanes
+  no-closure-fits : full ≡ true → (closed : List Row) → ClosureOf kind Rule (rowsOf l n) closed → length (l .subj) < length closed
+  no-closure-fits t closed c =
+      let w = s .over t in
+      let b = w .entailed (graphOf closed) (c .is-least .valued, c .is-least .is-closed, c .is-least .holds) in
+      omega (arith, w .long, below-no-more-rows kind (w .rows) closed (w .sound) (c .sound) b)
+
+  pub past-within : RowsWithin m n′
+  past-within = sound-rows-within kind m n′ (s .sound)
+
+  pub closing-done : full ≡ false → (m′ : Lanes) → m′ ≡ filled (rowsOf m n′) m → Closing kind l n m′ 0 0 n′
+  closing-done f m′ e = record {
+    refused = λ q. absurd (not-refused kind l n sound q);
+    fits = λ _ closed c h.
+        let same : rowsOf m n′ ≡ closed = closures-equal kind Rule (rowsOf l n) (rowsOf m n′) closed (the-closure f) c in
+        (refl, e ∙ same-filled ∙ ap (λ (R : List Row). filled R l) same, sym (tab-length n′ (rowAt m)) ∙ ap length same);
+    no-room = λ _ closed c h.
+        let same : rowsOf m n′ ≡ closed = closures-equal kind Rule (rowsOf l n) (rowsOf m n′) closed (the-closure f) c in
+        absurd (omega (arith, s .sound .within, s .as-long, tab-length n′ (rowAt m), ap length same));
+  }
+    where
+      same-filled : filled (rowsOf m n′) m ≡ filled (rowsOf m n′) l
+      same-filled = rw (
+        s .as-long,
+        s .sound .pred-long ∙ s .as-long ∙ sym (sound .pred-long),
+        s .sound .obj-long ∙ s .as-long ∙ sym (sound .obj-long),
+        s .sound .ann-long ∙ s .as-long ∙ sym (sound .ann-long),
+      ) refl
+
+  pub closing-no-room : full ≡ true → (m′ : Lanes) → m′ ≡ zeroed m → Closing kind l n m′ 12 0 0
+  closing-no-room t m′ e = record {
+    refused = λ q. absurd (not-refused kind l n sound q);
+    fits = λ _ closed c h. absurd (omega (arith, no-closure-fits t closed c));
+    no-room = λ _ closed c h. (refl, e ∙ same-zeroed, refl);
+  }
+    where
+      same-zeroed : zeroed m ≡ zeroed l
+      same-zeroed = rw (
+        s .as-long,
+        s .sound .pred-long ∙ s .as-long ∙ sym (sound .pred-long),
+        s .sound .obj-long ∙ s .as-long ∙ sym (sound .obj-long),
+        s .sound .ann-long ∙ s .as-long ∙ sym (sound .ann-long),
+      ) refl
