@@ -3,3 +3,4 @@ pub mod Heads
 pub mod Contents
 pub mod FieldByField
 pub mod Whole
+pub mod Writes
