@@ -3,3 +3,8 @@ pub mod Heads
 pub mod Contents
 pub mod FieldByField
 pub mod Whole
+pub mod Writes
+pub mod RoundTrip
+-- What is shown of the public calls.
+pub mod BookDetermined
+pub mod BookReadsBack

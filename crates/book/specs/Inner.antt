@@ -9,7 +9,9 @@ use Rattle.term.specs.Refusal.{verdict, first}
 use Rattle.annotation.specs.Kinds.{algebra}
 use Rattle.table.specs.Rows.{Row, Lanes, row, rowAt, rowsOf, addRow, filled}
 use Rattle.table.specs.Sound.{Sound}
+use Rattle.table.specs.Places.{RowsWithin}
 use Rattle.book.specs.Format.{headContentChecks, headChecks, headKind, headBase, contentChecks, fieldChecks, rowIn}
+use Rattle.book.specs.Writing.{bookLength}
 use Rattle.book.specs.Reading.{stepChecks, fieldsFrom, readAs, refused}
 
 -- the head's number, and where it is 0 its kind and base year
@@ -77,3 +79,8 @@ pub record BodyRead (kind base : ℕ) (b : List ℕ) (l m : Lanes) (number place
   pub base-is : base′ ≡ fieldsFrom (length b) kind base b (length (l .subj)) 7 [] .base
   pub count-is : count ≡ length (fieldsFrom (length b) kind base b (length (l .subj)) 7 [] .rows)
   pub lanes-are : m ≡ filled (fieldsFrom (length b) kind base b (length (l .subj)) 7 [] .rows) l
+
+-- the rows are within the lanes, and their book within the bytes
+pub record Writable (l : Lanes) (n : ℕ) (out : List ℕ) : Type 0 where
+  pub rows : RowsWithin l n
+  pub bytes : bookLength n ≤ length out

@@ -16,18 +16,18 @@ abbrev pub bookLength : ℕ → ℕ
 bookLength n = 7 + 17 * n
 
 -- "Writing: 4, 5, table, 12"
-abbrev pub writeChecks : ℕ → ℕ → Lanes → ℕ → List ℕ → List Check
-writeChecks kind base l n out =
+abbrev pub writeChecks : ℕ → ℕ → Lanes → ℕ → ℕ → List Check
+writeChecks kind base l n room =
     kindChecks kind 0
     ++ (baseChecks kind base 0
     ++ (tableChecks kind l n
-    ++ (refuse (ltb (length out) (bookLength n)) 12 0 ∷ [])))
+    ++ (refuse (ltb room (bookLength n)) 12 0 ∷ [])))
 
-abbrev pub writeDone : ℕ → ℕ → Lanes → ℕ → List ℕ → Bool
-writeDone kind base l n out = eqb (first (writeChecks kind base l n out) .number) 0
+abbrev pub writeDone : ℕ → ℕ → Lanes → ℕ → ℕ → Bool
+writeDone kind base l n room = eqb (first (writeChecks kind base l n room) .number) 0
 
 -- "The writer gives rows in table order"; "every refusal of writing changes nothing"; "a done writing leaves the bytes past its length"
 pub record Writing (kind base : ℕ) (l : Lanes) (n : ℕ) (out out′ : List ℕ) (number place size : ℕ) : Type 0 where
-  pub verdict-is : verdict number place ≡ first (writeChecks kind base l n out)
-  pub length-is : size ≡ cond (writeDone kind base l n out) (bookLength n) 0
-  pub bytes-are : out′ ≡ cond (writeDone kind base l n out) (bookBytes kind base (rowsOf l n) ++ drop (bookLength n) out) out
+  pub verdict-is : verdict number place ≡ first (writeChecks kind base l n (length out))
+  pub length-is : size ≡ cond (writeDone kind base l n (length out)) (bookLength n) 0
+  pub bytes-are : out′ ≡ cond (writeDone kind base l n (length out)) (bookBytes kind base (rowsOf l n) ++ drop (bookLength n) out) out

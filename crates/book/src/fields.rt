@@ -60,7 +60,7 @@ fn read_field(
     }
 }
 
-fn room_number(full: bool) -> u8
+pub fn room_number(full: bool) -> u8
     ensures { λ r. ⌜ r ≡ cond full 12 0 ⌝ }
 {
     if full { table::NO_ROOM } else { 0 }

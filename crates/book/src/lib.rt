@@ -3,15 +3,20 @@
 ghost use mathlib.Core.Path.{_≡_};
 ghost use Rattle.table.specs.Rows.{lanes};
 ghost use Rattle.book.specs.Reading.{Reading};
+ghost use Rattle.book.specs.Writing.{Writing};
 ghost use Rattle.book.specs.Inner.{Fresh, BodyRead};
 
 pub mod content;
 pub mod fields;
+pub mod writing;
 
 use content::head_of;
 use fields::read_fields;
 use table::judge::unfit;
 use table::put::wipe;
+use writing::write_fields;
+use writing::write_head;
+use writing::write_verdict;
 
 pub const TOO_LONG: u8 = 13;
 
@@ -87,4 +92,40 @@ pub fn read(
         return refused(head.number, 0);
     }
     read_body(book, head.kind, head.base, subj, pred, obj, ann)
+}
+
+pub struct WriteDone {
+    pub number: u8,
+    pub place: usize,
+    pub length: usize,
+}
+
+// Writes a table as a book into the bytes.
+pub fn write(
+    kind: u8,
+    base: u16,
+    subj: &[u16],
+    pred: &[u16],
+    obj: &[u16],
+    ann: &[u64],
+    count: usize,
+    out: &mut [u8],
+) -> WriteDone
+    ensures { λ r. ⌜ Writing kind base (lanes (now (subj .entry)) (now (pred .entry)) (now (obj .entry)) (now (ann .entry))) count (now (out .entry)) (now (out .exit)) (r .number) (r .place) (r .length) ⌝ }
+{
+    let verdict = write_verdict(kind, base, subj, pred, obj, ann, count, out.len());
+    if verdict.number > 0 {
+        return WriteDone {
+            number: verdict.number,
+            place: verdict.place,
+            length: 0,
+        };
+    }
+    write_head(out, kind, base);
+    write_fields(out, subj, pred, obj, ann, count);
+    WriteDone {
+        number: 0,
+        place: 0,
+        length: 7 + 17 * count,
+    }
 }

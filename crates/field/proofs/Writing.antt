@@ -47,3 +47,7 @@ pub written-both : (b c d : List ℕ) (at k : ℕ) (v w : List ℕ) → length v
     → c ≡ written b at v → d ≡ written c (at + k) w → d ≡ written b at (v ++ w)
 written-both b c d at k v w ek h ec ed =
     ed ∙ ap (λ (x : List ℕ). written x (at + k) w) ec ∙ written-on b at v (rw ek (omega arith)) w (at + k) (rw ek refl) (rw ek h)
+
+pub written-one : (b : List ℕ) (at x : ℕ) → at + 1 ≤ length b → set b at x ≡ written b at (x ∷ [])
+unfolding written
+written-one b at x h = sets-eq (x ∷ []) b at h

@@ -1,6 +1,7 @@
 // Numbers of 16, 32 and 64 bits in bytes, high byte first: read, and written.
 ghost use mathlib.Core.Path.{_≡_};
 ghost use Prim.Native.Nat.{_+_, _≤_, _<_};
+ghost use mathlib.Core.List.{[], _∷_};
 ghost use lib.ListN.{length};
 ghost use Rattle.field.specs.Numbers.{twoAt, fourAt, eightAt, twoBytes, fourBytes, eightBytes, written};
 
@@ -44,12 +45,28 @@ pub fn eight(bytes: &[u8], at: usize) -> u64
     high * 4294967296 + low
 }
 
+pub fn put_pair(bytes: &mut [u8], at: usize, x: u8, y: u8)
+    requires { ⌜ at + 2 ≤ length (now bytes) ⌝ }
+    ensures { λ _. ⌜ now (bytes .exit) ≡ written (now (bytes .entry)) at (x ∷ y ∷ []) ⌝ }
+{
+    bytes[at] = x;
+    bytes[at + 1] = y;
+}
+
 pub fn put_two(bytes: &mut [u8], at: usize, n: u64)
     requires { ⌜ at + 2 ≤ length (now bytes) ⌝ }
     ensures { λ _. ⌜ now (bytes .exit) ≡ written (now (bytes .entry)) at (twoBytes n) ⌝ }
 {
-    bytes[at] = (n / 256 % 256) as u8;
-    bytes[at + 1] = (n % 256) as u8;
+    put_pair(bytes, at, (n / 256 % 256) as u8, (n % 256) as u8);
+}
+
+// Tag and length, which every field begins with.
+pub fn put_front(bytes: &mut [u8], at: usize, tag: u8, size: u64)
+    requires { ⌜ at + 3 ≤ length (now bytes) ⌝ }
+    ensures { λ _. ⌜ now (bytes .exit) ≡ written (now (bytes .entry)) at (tag ∷ twoBytes size) ⌝ }
+{
+    bytes[at] = tag;
+    put_two(bytes, at + 1, size);
 }
 
 fn put_four(bytes: &mut [u8], at: usize, n: u64)

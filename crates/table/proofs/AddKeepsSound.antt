@@ -18,19 +18,12 @@ use Rattle.table.specs.Rows.{Triple, Row, Lanes, lanes, rowsOf, tab, lai
 use Rattle.table.specs.Checks.{tableChecks, tripleChecks}
 use Rattle.table.specs.Sound.{LegalRow, Sound, SoundRows}
 use Rattle.table.specs.Adding.{rowsWith, addChecks, addDone, Adding}
-use Rattle.table.proofs.Tab.{tab-length, tab-ext}
+use Rattle.table.proofs.Tab.{laid-rows}
 use Rattle.table.proofs.Judging.{table-numbered, triple-numbered}
 use Rattle.table.proofs.Soundness.{passes-sound, sound-passes, triple-legal, triple-passes, sound-list, list-sound}
 use Rattle.table.proofs.Putting.{sound-add}
 use Rattle.table.proofs.Ordering.{add-twice}
 use Rattle.table.proofs.Values.{Small, legal-small, all-legal-small, tripleOf, is-triple, value-add-same, value-add-other}
-
--- rows laid over lanes with room for them are the rows of the lanes
-laid-rows : (R : List Row) (S P O A : List ℕ)
-    → rowsOf (lanes (map (λ (x : Row). x .s) R ++ S) (map (λ (x : Row). x .p) R ++ P) (map (λ (x : Row). x .o) R ++ O) (map (λ (x : Row). x .a) R ++ A)) (length R) ≡ R
-unfolding tab
-laid-rows [] S P O A = refl
-laid-rows (x ∷ xs) S P O A = ap (λ (ys : List Row). x ∷ ys) (laid-rows xs S P O A)
 
 laid-long : (f : Row → ℕ) (R : List Row) (l : List ℕ) → length R ≤ length l → length (map f R ++ drop (length R) l) ≡ length l
 laid-long f R l h = simp (length-append, length-map, length-drop) (omega arith)

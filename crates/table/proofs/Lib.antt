@@ -9,6 +9,8 @@ pub mod Soundness
 pub mod Judging
 pub mod Putting
 pub mod Searching
+pub mod SameGraph
+pub mod Many
 pub mod Adds
 -- What is shown of the public calls.
 pub mod CheckDetermined

@@ -90,6 +90,11 @@ addRow K r (x ∷ xs) =
     (r ∷ x ∷ xs)
     (cond (eqb (key r) (key x)) (joined K r x ∷ xs) (x ∷ addRow K r xs))
 
+-- rows added one after another
+unfoldable pub addAll : Algebra → List Row → List Row → List Row
+addAll K [] rows = rows
+addAll K (r ∷ rs) rows = addAll K rs (addRow K r rows)
+
 abbrev pub isTriple : Triple → Row → Bool
 isTriple t x = eqb (x .s) (t .s) && (eqb (x .p) (t .p) && eqb (x .o) (t .o))
 

@@ -4,6 +4,8 @@ ghost use Rattle.term.specs.Refusal.{verdict, first};
 ghost use Rattle.table.specs.Rows.{row, lanes};
 ghost use Rattle.table.specs.Checks.{tableChecks};
 ghost use Rattle.table.specs.Adding.{Adding};
+ghost use Rattle.book.specs.Reading.{Reading};
+ghost use Rattle.book.specs.Writing.{Writing};
 
 #[no_mangle]
 pub extern "C" fn trial_check(
@@ -42,5 +44,48 @@ pub extern "C" fn trial_add(
     let answer = table::add(kind, subj, pred, obj, ann, *count, s, p, o, a);
     *count = answer.count;
     *place = answer.place;
+    answer.number
+}
+
+#[no_mangle]
+pub extern "C" fn trial_read(
+    book: &[u8],
+    subj: &mut [u16],
+    pred: &mut [u16],
+    obj: &mut [u16],
+    ann: &mut [u64],
+    place: &mut usize,
+    kind: &mut u8,
+    base: &mut u16,
+    count: &mut usize,
+) -> u8
+    ensures { λ r. ⌜ Reading (now (book .entry)) (lanes (now (subj .entry)) (now (pred .entry)) (now (obj .entry)) (now (ann .entry))) (lanes (now (subj .exit)) (now (pred .exit)) (now (obj .exit)) (now (ann .exit))) r (now (place .exit)) (now (kind .exit)) (now (base .exit)) (now (count .exit)) ⌝ }
+{
+    let answer = book::read(book, subj, pred, obj, ann);
+    *place = answer.place;
+    *kind = answer.kind;
+    *base = answer.base;
+    *count = answer.count;
+    answer.number
+}
+
+#[no_mangle]
+pub extern "C" fn trial_write(
+    kind: u8,
+    base: u16,
+    subj: &[u16],
+    pred: &[u16],
+    obj: &[u16],
+    ann: &[u64],
+    count: usize,
+    out: &mut [u8],
+    place: &mut usize,
+    length: &mut usize,
+) -> u8
+    ensures { λ r. ⌜ Writing kind base (lanes (now (subj .entry)) (now (pred .entry)) (now (obj .entry)) (now (ann .entry))) count (now (out .entry)) (now (out .exit)) r (now (place .exit)) (now (length .exit)) ⌝ }
+{
+    let answer = book::write(kind, base, subj, pred, obj, ann, count, out);
+    *place = answer.place;
+    *length = answer.length;
     answer.number
 }

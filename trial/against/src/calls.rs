@@ -3,6 +3,7 @@
 //! Nothing checks these declarations against the Rattle source: a slice goes over as a pointer
 //! and a length, a reference as a pointer.
 
+use trial::book::{ReadOut, WriteOut};
 use trial::table::{Added, Lanes, Row, Verdict};
 
 extern "C" {
@@ -36,6 +37,41 @@ extern "C" {
         o: u16,
         a: u64,
         place: *mut usize,
+    ) -> u8;
+
+    fn trial_read(
+        book: *const u8,
+        book_len: usize,
+        subj: *mut u16,
+        subj_len: usize,
+        pred: *mut u16,
+        pred_len: usize,
+        obj: *mut u16,
+        obj_len: usize,
+        ann: *mut u64,
+        ann_len: usize,
+        place: *mut usize,
+        kind: *mut u8,
+        base: *mut u16,
+        count: *mut usize,
+    ) -> u8;
+
+    fn trial_write(
+        kind: u8,
+        base: u16,
+        subj: *const u16,
+        subj_len: usize,
+        pred: *const u16,
+        pred_len: usize,
+        obj: *const u16,
+        obj_len: usize,
+        ann: *const u64,
+        ann_len: usize,
+        count: usize,
+        out: *mut u8,
+        out_len: usize,
+        place: *mut usize,
+        length: *mut usize,
     ) -> u8;
 }
 
@@ -84,4 +120,54 @@ pub fn add(kind: u8, lanes: &mut Lanes, mut count: usize, row: Row) -> Added {
         )
     };
     Added { number: u32::from(number), place: place as u64, count }
+}
+
+pub fn read(book: &[u8], lanes: &mut Lanes) -> ReadOut {
+    let mut out = ReadOut { number: 0, place: 0, kind: 255, base: 255, count: 255 };
+    let mut place = usize::MAX;
+    // SAFETY: the slices are live for the call, the lanes borrowed for it alone, and none overlap.
+    let number = unsafe {
+        trial_read(
+            book.as_ptr(),
+            book.len(),
+            lanes.subj.as_mut_ptr(),
+            lanes.subj.len(),
+            lanes.pred.as_mut_ptr(),
+            lanes.pred.len(),
+            lanes.obj.as_mut_ptr(),
+            lanes.obj.len(),
+            lanes.ann.as_mut_ptr(),
+            lanes.ann.len(),
+            &mut place,
+            &mut out.kind,
+            &mut out.base,
+            &mut out.count,
+        )
+    };
+    ReadOut { number: u32::from(number), place: place as u64, ..out }
+}
+
+pub fn write(kind: u8, base: u16, lanes: &Lanes, count: usize, out: &mut [u8]) -> WriteOut {
+    let (mut place, mut length) = (usize::MAX, usize::MAX);
+    // SAFETY: the slices are live for the call, the output borrowed for it alone, and none overlap.
+    let number = unsafe {
+        trial_write(
+            kind,
+            base,
+            lanes.subj.as_ptr(),
+            lanes.subj.len(),
+            lanes.pred.as_ptr(),
+            lanes.pred.len(),
+            lanes.obj.as_ptr(),
+            lanes.obj.len(),
+            lanes.ann.as_ptr(),
+            lanes.ann.len(),
+            count,
+            out.as_mut_ptr(),
+            out.len(),
+            &mut place,
+            &mut length,
+        )
+    };
+    WriteOut { number: u32::from(number), place: place as u64, length }
 }

@@ -4,6 +4,7 @@
 //! A case is dealt from one seed, so a difference is found again by its seed. It is also printed
 //! with its whole input, and goes to `stored` once it is settled.
 
+pub mod books;
 pub mod calls;
 pub mod stored;
 pub mod tables;
@@ -15,7 +16,12 @@ pub type Difference = String;
 pub type Case = fn(u64) -> Result<(), Difference>;
 
 /// Every kind of case, by name.
-pub const CASES: [(&str, Case); 2] = [("check", tables::check), ("add", tables::add)];
+pub const CASES: [(&str, Case); 4] = [
+    ("check", tables::check),
+    ("add", tables::add),
+    ("read", books::read),
+    ("write", books::write),
+];
 
 /// Compares what the two gave; `input` is only put together where they differ.
 pub fn same<T: PartialEq + std::fmt::Debug>(

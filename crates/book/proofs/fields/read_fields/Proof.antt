@@ -27,7 +27,7 @@ read-field-requires c κs =
     let the-args = c .before .before .before .before .before .before .before .before .before .before .before .args in
     let the-loop = c .before .before .before .before .before .loop in
     let the-loop-test = c .before .before .before .before .loop-test in
-    reached-into (the-args .kind) (the-args .book .now) (lanes (the-args .subj .now) (the-args .pred .now) (the-args .obj .now) (the-args .ann .now)) (lanes (the-loop .subj) (the-loop .pred) (the-loop .obj) (the-loop .ann)) (the-loop .at) (the-loop .count) (the-loop .inv) (the-loop-test .taken)
+    reached-into (the-args .kind) (the-args .book .now) (lanes (the-args .subj .now) (the-args .pred .now) (the-args .obj .now) (the-args .ann .now)) (lanes (the-loop .subj) (the-loop .pred) (the-loop .obj) (the-loop .ann)) (the-loop .at) (the-loop .count) (the-loop .inv) (omega (arith, the-loop-test .taken))
 
 same-length : tie.Need-same-length Inv-loop μ-loop
 same-length c = search needs
@@ -48,7 +48,7 @@ returns c =
     let the-loop-test = c .before .before .before .before .before .before .before .before .before .before .before .before .before .before .before .loop-test in
     let the-read-field = c .before .before .before .before .before .before .before .before .before .before .read-field in
     let the-if1 = c .if1 in
-    reached-stop (the-args .kind) (the-args .book .now) (lanes (the-args .subj .now) (the-args .pred .now) (the-args .obj .now) (the-args .ann .now)) (lanes (the-loop .subj) (the-loop .pred) (the-loop .obj) (the-loop .ann)) (the-loop .at) (the-loop .count) (the-loop .inv) (the-loop-test .taken)
+    reached-stop (the-args .kind) (the-args .book .now) (lanes (the-args .subj .now) (the-args .pred .now) (the-args .obj .now) (the-args .ann .now)) (lanes (the-loop .subj) (the-loop .pred) (the-loop .obj) (the-loop .ann)) (the-loop .at) (the-loop .count) (the-loop .inv) (omega (arith, the-loop-test .taken))
     _ _ _ (the-read-field .ensures) (the-if1 .taken)
 
 add-at : tie.Need-add-at Inv-loop μ-loop
@@ -70,7 +70,7 @@ loop-again c =
     let the-loop-test = c .before .before .before .before .before .before .before .before .before .before .before .before .before .before .before .loop-test in
     let the-read-field = c .before .before .before .before .before .before .before .before .before .before .read-field in
     let the-if1 = c .if1 in
-    reached-step (the-args .kind) (the-args .book .now) (lanes (the-args .subj .now) (the-args .pred .now) (the-args .obj .now) (the-args .ann .now)) (lanes (the-loop .subj) (the-loop .pred) (the-loop .obj) (the-loop .ann)) (the-loop .at) (the-loop .count) (the-loop .inv) (the-loop-test .taken)
+    reached-step (the-args .kind) (the-args .book .now) (lanes (the-args .subj .now) (the-args .pred .now) (the-args .obj .now) (the-args .ann .now)) (lanes (the-loop .subj) (the-loop .pred) (the-loop .obj) (the-loop .ann)) (the-loop .at) (the-loop .count) (the-loop .inv) (omega (arith, the-loop-test .taken))
     _ _ _ (the-read-field .ensures) (the-if1 .left)
 
 same-length-5 : tie.Need-same-length-5 Inv-loop μ-loop
@@ -91,7 +91,7 @@ returns-2 c =
     let the-loop = c .before .loop in
     let the-pre = c .before .before .before .before .before .before .before .pre in
     let the-loop-test = c .loop-test in
-    reached-end (the-args .kind) (the-args .book .now) (lanes (the-args .subj .now) (the-args .pred .now) (the-args .obj .now) (the-args .ann .now)) (lanes (the-loop .subj) (the-loop .pred) (the-loop .obj) (the-loop .ann)) (the-loop .at) (the-loop .count) (the-loop .inv) (the-pre .sound) (the-loop-test .left)
+    reached-end (the-args .kind) (the-args .book .now) (lanes (the-args .subj .now) (the-args .pred .now) (the-args .obj .now) (the-args .ann .now)) (lanes (the-loop .subj) (the-loop .pred) (the-loop .obj) (the-loop .ann)) (the-loop .at) (the-loop .count) (the-loop .inv) (the-pre .sound) (omega (arith, the-loop-test .left))
 
 pub read-fields-spec : {M : Type 1} → statement M
 read-fields-spec =

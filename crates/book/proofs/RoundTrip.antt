@@ -1,0 +1,208 @@
+-- A book's fields read back to their rows: one field, field after field, the head, the whole. Assumes nothing.
+use mathlib.Core.Path.{_≡_, refl, sym, ap, _∙_}
+use mathlib.Core.Bool.{Bool, true, false, not, _||_}
+use mathlib.Core.List.{List, [], _∷_, _++_, append-assoc, append-nil}
+use Prim.Native.Nat.{ℕ, zero, suc, _+_, _*_, _≤_, _<_}
+use native.Mathlib.Nat.{add-assoc}
+use native.Mathlib.Omega.{arith}
+use lib.ListN.{length, getD, length-append}
+use lib.Seq.{getD-append-add}
+use lib.Dec.{eqb, leb, ltb}
+use borrow.Author.Tests.{eq-eqb, ne-eqb, le-ltb, lt-leb, le-leb}
+use Rattle.term.specs.Refusal.{Check, refuse, verdict, done, first}
+use Rattle.term.specs.Term.{sortOf, isLegalTerm}
+use Rattle.term.specs.declared.refusal.Verdict.{Verdict}
+use Rattle.term.proofs.Firsts.{first-passes, first-none}
+use Rattle.term.proofs.Sorts.{legal-below, name-below}
+use Rattle.annotation.specs.Kinds.{algebra, isLegal}
+use Rattle.annotation.proofs.KindLaws.{laws}
+use Rattle.annotation.proofs.Legal.{legal-value}
+use Rattle.table.specs.Rows.{Row, row, addRow, addAll}
+use Rattle.table.specs.Sound.{LegalRow, AllLegal, SoundRows}
+use Rattle.table.proofs.Many.{no-fewer, all-no-fewer}
+use Rattle.field.specs.Numbers.{twoAt, eightAt, twoBytes, eightBytes}
+use Rattle.field.specs.Fields.{isCut, tagAt, sizeAt}
+use Rattle.field.proofs.Writing.{length-two}
+use Rattle.field.proofs.Back.{two-behind, eight-behind, two-back, eight-back}
+use Rattle.book.specs.Format.{isBase, headChecks, headKind, headBase, rowIn, contentChecks, fieldChecks, headBytes, fieldBytes, fieldsBytes, bookBytes}
+use Rattle.book.specs.Reading.{Read, readAs, stepChecks, fieldsFrom, readBook}
+use Rattle.book.proofs.Writes.{length-head, length-field}
+
+-- content that is legal passes
+content-passes : (kind : ℕ) (r : Row) (p : ℕ) (cs : List Check) → LegalRow kind r → first (contentChecks kind r p ++ cs) ≡ first cs
+content-passes kind r p cs h =
+    let legal-p : isLegalTerm (r .p) ≡ true = le-leb (sortOf (r .p)) 2 (omega (arith, name-below (r .p) (h .predicate))) in
+    first-passes _ 8 p _ (rw (h .subject) refl)
+    ∙ first-passes _ 8 p _ (rw legal-p refl)
+    ∙ first-passes _ 9 p _ (rw (h .predicate) refl)
+    ∙ first-passes _ 8 p _ (rw (h .object) refl)
+    ∙ first-passes _ 10 p cs (rw (h .annotation) refl)
+
+-- the bytes of one row, whatever stands before and behind
+module _ (kind : ℕ) (r : Row) (h : LegalRow kind r) (pre rest : List ℕ) where
+  abbrev S : List ℕ
+  S = twoBytes (r .s)
+
+  abbrev P : List ℕ
+  P = twoBytes (r .p)
+
+  abbrev O : List ℕ
+  O = twoBytes (r .o)
+
+  abbrev A : List ℕ
+  A = eightBytes (r .a)
+
+  abbrev tail : List ℕ
+  tail = 3 ∷ 0 ∷ 14 ∷ (S ++ (P ++ (O ++ (A ++ rest))))
+
+  opened : fieldBytes r ++ rest ≡ tail
+  unfolding fieldBytes
+  opened = simp append-assoc
+
+  abbrev b : List ℕ
+  b = pre ++ tail
+
+  front-size : twoAt tail 1 ≡ 14
+  unfolding twoAt
+  front-size = refl
+
+  to-content : (k : ℕ) → twoAt tail (3 + k) ≡ twoAt (S ++ (P ++ (O ++ (A ++ rest)))) k
+  to-content k = two-behind (3 ∷ 0 ∷ 14 ∷ []) (S ++ (P ++ (O ++ (A ++ rest)))) k
+
+  subject : twoAt tail 3 ≡ r .s
+  subject = to-content 0 ∙ two-back (r .s) _ (omega (arith, legal-below (r .s) (h .subject)))
+
+  predicate : twoAt tail 5 ≡ r .p
+  unfolding twoBytes
+  predicate = to-content 2 ∙ two-behind S (P ++ (O ++ (A ++ rest))) 0 ∙ two-back (r .p) _ (omega (arith, name-below (r .p) (h .predicate)))
+
+  object : twoAt tail 7 ≡ r .o
+  unfolding twoBytes
+  object =
+      to-content 4 ∙ two-behind S (P ++ (O ++ (A ++ rest))) 2 ∙ two-behind P (O ++ (A ++ rest)) 0
+      ∙ two-back (r .o) _ (omega (arith, legal-below (r .o) (h .object)))
+
+  annotation : eightAt tail 9 ≡ r .a
+  unfolding twoBytes
+  annotation =
+      eight-behind (3 ∷ 0 ∷ 14 ∷ []) (S ++ (P ++ (O ++ (A ++ rest)))) 6 ∙ eight-behind S (P ++ (O ++ (A ++ rest))) 4
+      ∙ eight-behind P (O ++ (A ++ rest)) 2 ∙ eight-behind O (A ++ rest) 0
+      ∙ eight-back (r .a) rest (omega (arith, laws kind .value-bound (r .a) (legal-value (r .a) kind (h .annotation) .1)))
+
+  pub row-back : rowIn b (length pre) ≡ r
+  unfolding rowIn
+  row-back =
+      rw (two-behind pre tail 3, two-behind pre tail 5, two-behind pre tail 7, eight-behind pre tail 9, subject, predicate, object, annotation) refl
+
+  tail-long : length tail ≡ 17 + length rest
+  tail-long = ap length (sym opened) ∙ length-append (fieldBytes r) rest ∙ rw (length-field r) refl
+
+  b-long : length b ≡ length pre + (17 + length rest)
+  b-long = length-append pre tail ∙ rw tail-long refl
+
+  size-back : sizeAt b (length pre) ≡ 14
+  size-back = two-behind pre tail 1 ∙ front-size
+
+  tag-back : tagAt b (length pre) ≡ 3
+  tag-back = ap (λ (i : ℕ). getD b i 0) (at-zero (length pre)) ∙ getD-append-add pre tail 0 0
+    where
+      at-zero : (n : ℕ) → n ≡ n + 0
+      at-zero n = omega arith
+
+  not-cut : isCut b (length pre) ≡ false
+  not-cut = rw (size-back, le-ltb (length b) (length pre + 3) (omega (arith, b-long)), le-ltb (length b) (length pre + 3 + 14) (omega (arith, b-long))) refl
+
+  pub field-passes : (cs : List Check) → first (fieldChecks kind b (length pre) ++ cs) ≡ first cs
+  field-passes cs =
+      let at = length pre in
+      first-passes (isCut b at) 1 at _ not-cut
+      ∙ first-passes (eqb (tagAt b at) 1) 2 at _ (rw tag-back refl)
+      ∙ first-passes (not (eqb (tagAt b at) 3)) 6 at _ (rw tag-back refl)
+      ∙ first-passes (not (eqb (sizeAt b at) 14)) 7 at _ (rw size-back refl)
+      ∙ content-passes kind (rowIn b at) at cs (rw row-back h)
+
+-- field after field: the fields left are added to the rows before them
+module _ (kind base room : ℕ) where
+  over : (b : List ℕ) (at fuel : ℕ) (R : List Row) → length b ≤ at → fieldsFrom fuel kind base b room at R ≡ readAs kind base R
+  unfolding fieldsFrom
+  over b at zero R h = refl
+  over b at (suc fuel) R h = rw (le-leb (length b) at h) refl
+
+  one-more : (r : Row) (pre rest : List ℕ) (R : List Row) (fuel : ℕ) → LegalRow kind r → length (addRow (algebra kind) r R) ≤ room
+      → fieldsFrom (suc fuel) kind base (pre ++ (fieldBytes r ++ rest)) room (length pre) R
+      ≡ fieldsFrom fuel kind base (pre ++ (fieldBytes r ++ rest)) room (length pre + 17) (addRow (algebra kind) r R)
+  unfolding fieldsFrom
+  one-more r pre rest R fuel h fits =
+      rw (opened kind r h pre rest)
+      (rw (lt-leb (length (pre ++ tail kind r h pre rest)) (length pre) (omega (arith, b-long kind r h pre rest)), passes, row-back kind r h pre rest) refl)
+    where
+      fits-in : ltb room (length (addRow (algebra kind) (rowIn (b kind r h pre rest) (length pre)) R)) ≡ false
+      fits-in = rw (row-back kind r h pre rest) (le-ltb room (length (addRow (algebra kind) r R)) fits)
+
+      passes : first (stepChecks kind (b kind r h pre rest) room (length pre) R) ≡ done
+      passes = field-passes kind r h pre rest _ ∙ first-passes _ 12 (length pre) [] fits-in ∙ first-none
+
+  pub fields-read : (fs : List Row) (pre : List ℕ) (R : List Row) (fuel : ℕ) → length fs ≤ fuel → AllLegal kind fs
+      → length (addAll (algebra kind) fs R) ≤ room
+      → fieldsFrom fuel kind base (pre ++ fieldsBytes fs) room (length pre) R ≡ readAs kind base (addAll (algebra kind) fs R)
+  unfolding addAll AllLegal fieldsBytes
+  fields-read [] pre R fuel q legal fits = over (pre ++ []) (length pre) fuel R (rw (append-nil pre) (omega arith))
+  fields-read (r ∷ rs) pre R zero q legal fits = absurd (omega arith)
+  fields-read (r ∷ rs) pre R (suc fuel) q legal fits =
+      let here : length (addRow (algebra kind) r R) ≤ room = omega (arith, all-no-fewer (algebra kind) rs (addRow (algebra kind) r R)) in
+      let next : length (pre ++ fieldBytes r) ≡ length pre + 17 = length-append pre (fieldBytes r) ∙ rw (length-field r) refl in
+      one-more r pre (fieldsBytes rs) R fuel (legal .0) here
+      ∙ rw (← append-assoc pre (fieldBytes r) (fieldsBytes rs), ← next)
+      (fields-read rs (pre ++ fieldBytes r) (addRow (algebra kind) r R) fuel (omega arith) (legal .1) fits)
+
+fields-long : (xs : List Row) → length xs ≤ length (fieldsBytes xs)
+unfolding fieldsBytes
+fields-long [] = omega arith
+fields-long (x ∷ xs) = omega (arith, length-append (fieldBytes x) (fieldsBytes xs), length-field x, fields-long xs)
+
+-- the head
+module _ (kind base : ℕ) (from : 1 ≤ kind) (to : kind ≤ 4) (year : isBase kind base ≡ true) (small : base < 65536) (fs : List Row) where
+  abbrev book : List ℕ
+  book = bookBytes kind base fs
+
+  abbrev spelt : List ℕ
+  spelt = 1 ∷ 0 ∷ 4 ∷ 1 ∷ kind ∷ (twoBytes base ++ fieldsBytes fs)
+
+  spelled : book ≡ spelt
+  unfolding headBytes
+  spelled = refl
+
+  base-back : headBase spelt ≡ base
+  base-back = two-behind (1 ∷ 0 ∷ 4 ∷ 1 ∷ kind ∷ []) (twoBytes base ++ fieldsBytes fs) 0 ∙ two-back base (fieldsBytes fs) small
+
+  head-size : sizeAt spelt 0 ≡ 4
+  unfolding twoAt
+  head-size = refl
+
+  spelt-long : 7 ≤ length spelt
+  spelt-long = omega (arith, length-append (twoBytes base) (fieldsBytes fs), length-two base)
+
+  head-whole : isCut spelt 0 ≡ false
+  head-whole = rw (head-size, le-ltb (length spelt) (0 + 3) (omega (arith, spelt-long)), le-ltb (length spelt) (0 + 3 + 4) (omega (arith, spelt-long))) refl
+
+  head-passes : first (headChecks spelt) ≡ done
+  head-passes =
+      first-passes (eqb (length spelt) 0) 2 0 _ (ne-eqb (length spelt) 0 (λ z. omega (arith, spelt-long)))
+      ∙ first-passes (isCut spelt 0) 1 0 _ head-whole
+      ∙ first-passes _ 2 0 _ refl
+      ∙ first-passes _ 2 0 _ (rw head-size refl)
+      ∙ first-passes _ 3 0 _ refl
+      ∙ first-passes _ 4 0 _ (rw (le-leb 1 kind from, le-leb kind 4 to) refl)
+      ∙ first-passes _ 5 0 [] (rw (base-back, year) refl)
+      ∙ first-none
+
+  -- a book of legal rows in any order reads to these rows added one after another
+  pub book-reads : (room : ℕ) → AllLegal kind fs → length (addAll (algebra kind) fs []) ≤ room
+      → readBook book room ≡ readAs kind base (addAll (algebra kind) fs [])
+  unfolding readBook headBytes
+  book-reads room legal fits =
+      rw (spelled, head-passes, base-back)
+      (rw (← spelled, ← length-head kind base) (fields-read kind base room fs (headBytes kind base) [] (length book) enough legal fits))
+    where
+      enough : length fs ≤ length book
+      enough = omega (arith, length-append (headBytes kind base) (fieldsBytes fs), fields-long fs)

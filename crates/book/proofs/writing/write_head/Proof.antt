@@ -1,0 +1,29 @@
+-- Tag and length, edition and kind, base year.
+use borrow.Author.Needs.{needs}
+use Rattle.book.proofs.Writes.{head-written}
+use Rattle.book.proofs.writing.write_head.Statement.{statement}
+use Rattle.book.proofs.writing.write_head.Tie as tie
+
+put-front-requires : tie.Need-put-front-requires
+put-front-requires c κs = search needs
+
+put-pair-requires : tie.Need-put-pair-requires
+put-pair-requires c κs = search needs
+
+put-two-requires : tie.Need-put-two-requires
+put-two-requires c κs = search needs
+
+same-length : tie.Need-same-length
+same-length c = search needs
+
+returns : tie.Need-returns
+returns c =
+    let the-args = c .before .before .before .before .before .before .before .before .before .before .before .before .before .args in
+    let the-put-front = c .before .before .before .before .before .before .before .before .before .before .put-front in
+    let the-put-pair = c .before .before .before .before .before .before .put-pair in
+    let the-put-two = c .before .before .put-two in
+    head-written (the-args .out .now) _ _ _ _ _ (search needs) (the-put-front .ensures) (the-put-pair .ensures) (the-put-two .ensures)
+
+pub write-head-spec : {M : Type 1} → statement M
+write-head-spec =
+    tie.close (tie.spec put-front-requires put-pair-requires put-two-requires same-length returns)
