@@ -66,8 +66,10 @@ module _ (kind : ℕ) (l : Lanes) (n : ℕ) (sound : Sound kind l n) (m : Lanes)
       zeroed-alike l m (s .as-long) (s .sound .pred-long ∙ s .as-long ∙ sym (sound .pred-long))
       (s .sound .obj-long ∙ s .as-long ∙ sym (sound .obj-long)) (s .sound .ann-long ∙ s .as-long ∙ sym (sound .ann-long))
 
-  pub past-within : RowsWithin m n′
-  past-within = sound-rows-within kind m n′ (s .sound)
+  pub past-within : {k : ℕ} → k ≤ n′ → RowsWithin m k
+  past-within h =
+      let r = sound-rows-within kind m n′ (s .sound) in
+      record { in-subj = omega (arith, r .in-subj); in-pred = omega (arith, r .in-pred); in-obj = omega (arith, r .in-obj); in-ann = omega (arith, r .in-ann) }
 
   pub closing-done : full ≡ false → (m′ : Lanes) → m′ ≡ filled (rowsOf m n′) m → Closing kind l n m′ 0 0 n′
   closing-done f m′ e = record {

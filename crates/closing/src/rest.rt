@@ -6,13 +6,7 @@ use table::lane::zero_u16;
 use table::lane::zero_u64;
 
 // Zeroes the rows past the count.
-pub fn wipe_past(
-    subj: &mut [u16],
-    pred: &mut [u16],
-    obj: &mut [u16],
-    ann: &mut [u64],
-    count: usize,
-)
+pub fn wipe_past(subj: &mut [u16], pred: &mut [u16], obj: &mut [u16], ann: &mut [u64], count: usize)
     requires { ⌜ RowsWithin (lanes (now subj) (now pred) (now obj) (now ann)) count ⌝ }
     ensures { λ _. ⌜ lanes (now (subj .exit)) (now (pred .exit)) (now (obj .exit)) (now (ann .exit)) ≡ filled (rowsOf (lanes (now (subj .entry)) (now (pred .entry)) (now (obj .entry)) (now (ann .entry))) count) (lanes (now (subj .entry)) (now (pred .entry)) (now (obj .entry)) (now (ann .entry))) ⌝ }
 {
