@@ -13,7 +13,7 @@ use Rattle.term.proofs.Firsts.{first-holds, first-passes, first-none, first-pla
 use Rattle.table.specs.Rows.{Row, Lanes, lanes, rowsOf, laid, zeroed, filled}
 use Rattle.table.specs.Checks.{isUnfit}
 use Rattle.table.specs.Sound.{Sound}
-use Rattle.table.proofs.Tab.{tab-length, zero-row}
+use Rattle.table.proofs.Tab.{tab-length, zero-row, zeroed-alike}
 use Rattle.table.proofs.Soundness.{Fit, fit-of}
 use Rattle.book.specs.Format.{headChecks, headKind, headBase}
 use Rattle.book.specs.Reading.{Read, refused, readAs, whenDone, goOn, fieldsFrom, readBook, lendChecks, reading, Reading}
@@ -38,7 +38,7 @@ module _ (kind base : ℕ) (b : List ℕ) (l : Lanes) (fresh : Fresh kind l) (m 
       let g = f .sound in
       let s = fresh .sound in
       let e = f .as-long in
-      rw (g .pred-long ∙ e ∙ sym (s .pred-long), g .obj-long ∙ e ∙ sym (s .obj-long), g .ann-long ∙ e ∙ sym (s .ann-long), e) refl
+      zeroed-alike l m e (g .pred-long ∙ e ∙ sym (s .pred-long)) (g .obj-long ∙ e ∙ sym (s .obj-long)) (g .ann-long ∙ e ∙ sym (s .ann-long))
 
   pub body-refused : 0 < number → (m′ : Lanes) (n p k b′ c : ℕ) → m′ ≡ zeroed m → Answer number place n p k b′ c → BodyRead kind base b l m′ n p k b′ c
   body-refused h m′ n p k b′ c em a =

@@ -5,3 +5,6 @@ pub mod Walking
 pub mod Rounding
 pub mod Wiping
 pub mod Whole
+-- What is shown of the public call.
+pub mod CloseDetermined
+pub mod CloseCloses

@@ -9,13 +9,13 @@ use Rattle.term.specs.Refusal.{verdict, done, first}
 use Rattle.term.specs.declared.refusal.Verdict.{Verdict}
 use Rattle.term.proofs.Firsts.{first-done}
 use Rattle.annotation.specs.Kinds.{algebra}
-use Rattle.table.specs.Rows.{Row, Lanes, rowsOf, rowAt, zeroed, filled}
+use Rattle.table.specs.Rows.{Row, Lanes, rowsOf, rowAt, laid, zeroed, filled}
 use Rattle.table.specs.Checks.{tableChecks}
 use Rattle.table.specs.Sound.{Sound}
 use Rattle.table.specs.Places.{RowsWithin}
 use Rattle.table.proofs.Judging.{table-numbered}
 use Rattle.table.proofs.Soundness.{passes-sound, sound-passes, sound-list, sound-rows-within}
-use Rattle.table.proofs.Tab.{tab-length}
+use Rattle.table.proofs.Tab.{tab-length, zeroed-alike}
 use Rattle.rhodf.specs.Graph.{graphOf}
 use Rattle.rhodf.specs.Rules.{Rule}
 use Rattle.rhodf.specs.Closure.{ClosureOf}
@@ -61,27 +61,26 @@ module _ (kind : ℕ) (l : Lanes) (n : ℕ) (sound : Sound kind l n) (m : Lanes)
       let b = w .entailed (graphOf closed) (c .is-least .valued, c .is-least .is-closed, c .is-least .holds) in
       omega (arith, w .long, below-no-more-rows kind (w .rows) closed (w .sound) (c .sound) b)
 
-  pub past-within : RowsWithin m n′
-  past-within = sound-rows-within kind m n′ (s .sound)
+  same-zeroed : zeroed m ≡ zeroed l
+  same-zeroed =
+      zeroed-alike l m (s .as-long) (s .sound .pred-long ∙ s .as-long ∙ sym (sound .pred-long))
+      (s .sound .obj-long ∙ s .as-long ∙ sym (sound .obj-long)) (s .sound .ann-long ∙ s .as-long ∙ sym (sound .ann-long))
+
+  pub past-within : {k : ℕ} → k ≤ n′ → RowsWithin m k
+  past-within h =
+      let r = sound-rows-within kind m n′ (s .sound) in
+      record { in-subj = omega (arith, r .in-subj); in-pred = omega (arith, r .in-pred); in-obj = omega (arith, r .in-obj); in-ann = omega (arith, r .in-ann) }
 
   pub closing-done : full ≡ false → (m′ : Lanes) → m′ ≡ filled (rowsOf m n′) m → Closing kind l n m′ 0 0 n′
   closing-done f m′ e = record {
     refused = λ q. absurd (not-refused kind l n sound q);
     fits = λ _ closed c h.
         let same : rowsOf m n′ ≡ closed = closures-equal kind Rule (rowsOf l n) (rowsOf m n′) closed (the-closure f) c in
-        (refl, e ∙ same-filled ∙ ap (λ (R : List Row). filled R l) same, sym (tab-length n′ (rowAt m)) ∙ ap length same);
+        (refl, e ∙ ap (laid (rowsOf m n′)) same-zeroed ∙ ap (λ (R : List Row). filled R l) same, sym (tab-length n′ (rowAt m)) ∙ ap length same);
     no-room = λ _ closed c h.
         let same : rowsOf m n′ ≡ closed = closures-equal kind Rule (rowsOf l n) (rowsOf m n′) closed (the-closure f) c in
         absurd (omega (arith, s .sound .within, s .as-long, tab-length n′ (rowAt m), ap length same));
   }
-    where
-      same-filled : filled (rowsOf m n′) m ≡ filled (rowsOf m n′) l
-      same-filled = rw (
-        s .as-long,
-        s .sound .pred-long ∙ s .as-long ∙ sym (sound .pred-long),
-        s .sound .obj-long ∙ s .as-long ∙ sym (sound .obj-long),
-        s .sound .ann-long ∙ s .as-long ∙ sym (sound .ann-long),
-      ) refl
 
   pub closing-no-room : full ≡ true → (m′ : Lanes) → m′ ≡ zeroed m → Closing kind l n m′ 12 0 0
   closing-no-room t m′ e = record {
@@ -89,11 +88,3 @@ module _ (kind : ℕ) (l : Lanes) (n : ℕ) (sound : Sound kind l n) (m : Lanes)
     fits = λ _ closed c h. absurd (omega (arith, no-closure-fits t closed c));
     no-room = λ _ closed c h. (refl, e ∙ same-zeroed, refl);
   }
-    where
-      same-zeroed : zeroed m ≡ zeroed l
-      same-zeroed = rw (
-        s .as-long,
-        s .sound .pred-long ∙ s .as-long ∙ sym (sound .pred-long),
-        s .sound .obj-long ∙ s .as-long ∙ sym (sound .obj-long),
-        s .sound .ann-long ∙ s .as-long ∙ sym (sound .ann-long),
-      ) refl

@@ -13,7 +13,7 @@ use Rattle.term.specs.declared.refusal.Verdict.{Verdict}
 use Rattle.term.proofs.Firsts.{first-passes, first-holds, first-none, first-clear}
 use Rattle.table.specs.Rows.{Row, Lanes, rowsOf, zeroed, filled}
 use Rattle.table.specs.Sound.{Sound, SoundRows}
-use Rattle.table.proofs.Tab.{laid-rows, filled-long}
+use Rattle.table.proofs.Tab.{filled-rows, filled-lane}
 use Rattle.table.proofs.Judging.{table-numbered}
 use Rattle.table.proofs.Soundness.{rows-sound, sound-passes}
 use Rattle.rhodf.specs.Rules.{Rule}
@@ -37,10 +37,10 @@ module _ (kind : ℕ) (from : 1 ≤ kind) (to : kind ≤ 4) (l : Lanes)
     (ls : length (l .subj) ≡ 1024) (lp : length (l .pred) ≡ 1024) (lo : length (l .obj) ≡ 1024) (la : length (l .ann) ≡ 1024)
     (R : List Row) (s : SoundRows kind R) (fits : length R ≤ 1024) where
   room-rows : rowsOf (filled R l) (length R) ≡ R
-  room-rows = laid-rows R _ _ _ _
+  room-rows = filled-rows R l
 
   long-of : (f : Row → ℕ) (n : ℕ) → n ≡ 1024 → length (map f R ++ drop (length R) (replicate n 0)) ≡ 1024
-  long-of f n e = filled-long f R n (rw e fits) ∙ e
+  long-of f n e = filled-lane f R n (rw e fits) ∙ e
 
   room-subj : length (filled R l .subj) ≡ 1024
   room-subj = long-of (λ (r : Row). r .s) (length (l .subj)) ls

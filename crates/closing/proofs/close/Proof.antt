@@ -1,4 +1,5 @@
 -- Refused by the check, full, or closed: a law each.
+use native.Mathlib.Omega.{arith}
 use Rattle.table.specs.Rows.{lanes}
 use Rattle.closing.proofs.Whole.{closing-refused, closing-sound, past-within, closing-done, closing-no-room}
 use borrow.Author.Needs.{needs}
@@ -65,7 +66,7 @@ wipe-past-requires c κs =
     let the-check = c .before .before .before .before .before .before .before .before .before .before .before .before .before .before .before .before .before .before .before .before .check in
     let the-if1 = c .before .before .before .before .before .before .before .before .before .before .before .before .before .before .before .before .before .before .if1 in
     let the-saturate = c .before .before .before .before .before .before .before .before .before .before .before .before .before .saturate in
-    past-within (the-args .kind) (lanes (the-args .subj .now) (the-args .pred .now) (the-args .obj .now) (the-args .ann .now)) (the-args .count) (closing-sound (the-args .kind) (lanes (the-args .subj .now) (the-args .pred .now) (the-args .obj .now) (the-args .ann .now)) (the-args .count) (the-check .result) (the-check .ensures) (the-if1 .left)) _ _ _ (the-saturate .ensures)
+    past-within (the-args .kind) (lanes (the-args .subj .now) (the-args .pred .now) (the-args .obj .now) (the-args .ann .now)) (the-args .count) (closing-sound (the-args .kind) (lanes (the-args .subj .now) (the-args .pred .now) (the-args .obj .now) (the-args .ann .now)) (the-args .count) (the-check .result) (the-check .ensures) (the-if1 .left)) _ _ _ (the-saturate .ensures) (omega arith)
 
 same-length-9 : tie.Need-same-length-9
 same-length-9 c = search needs

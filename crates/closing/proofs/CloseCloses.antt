@@ -1,0 +1,122 @@
+-- What a done closing leaves: a sound table that is the closure of the one that came, with zeros behind it; a closed table stays, and closing
+-- twice is closing once. Assumes nothing.
+use mathlib.Core.Path.{_≡_, refl, sym, ap, _∙_}
+use mathlib.Core.List.{List}
+use Prim.Native.Nat.{ℕ, _≤_, _<_}
+use native.Mathlib.Decide.{decLt}
+use native.Mathlib.Omega.{arith}
+use lib.ListN.{length}
+use Rattle.term.specs.Refusal.{verdict, first}
+use Rattle.term.specs.declared.refusal.Verdict.{Verdict}
+use Rattle.term.proofs.Firsts.{first-done}
+use Rattle.annotation.specs.Kinds.{algebra}
+use Rattle.table.specs.Rows.{Row, Lanes, rowAt, rowsOf, laid, filled}
+use Rattle.table.specs.Checks.{tableChecks}
+use Rattle.table.specs.Sound.{Sound}
+use Rattle.table.proofs.Judging.{table-numbered}
+use Rattle.table.proofs.Soundness.{passes-sound, sound-list, list-sound}
+use Rattle.table.proofs.Tab.{tab-length, filled-rows, filled-lane, zeroed-alike}
+use Rattle.rhodf.specs.Graph.{Graph, graphOf, Valued, Below}
+use Rattle.rhodf.specs.Rules.{Rule}
+use Rattle.rhodf.specs.Closure.{Closed, ClosureOf}
+use Rattle.rhodf.proofs.Exists.{closure-exists}
+use Rattle.rhodf.proofs.ClosedStays.{closed-is-closure}
+use Rattle.closing.specs.Closing.{Closing}
+
+-- what is left: "the closure is the least closed graph at or above the input"; "rows past the count are all zero"
+pub record Closes (kind : ℕ) (l : Lanes) (n : ℕ) (m : Lanes) (count : ℕ) : Type 0 where
+  pub sound : Sound kind m count
+  pub as-long : length (m .subj) ≡ length (l .subj)
+  pub holds : Below (algebra kind) (graphOf (rowsOf l n)) (graphOf (rowsOf m count))
+  pub is-closed : Closed (algebra kind) Rule (graphOf (rowsOf m count))
+  pub least : (H : Graph) → Valued (algebra kind) H → Closed (algebra kind) Rule H → Below (algebra kind) (graphOf (rowsOf l n)) H
+      → Below (algebra kind) (graphOf (rowsOf m count)) H
+  pub lanes-are : m ≡ filled (rowsOf m count) l
+
+-- number 0, count and lanes: nothing is changed but the rows past the count
+pub record Stays (l : Lanes) (n : ℕ) (m : Lanes) (number count : ℕ) : Type 0 where
+  pub done-again : number ≡ 0
+  pub same-count : count ≡ n
+  pub same-rows : rowsOf m count ≡ rowsOf l n
+  pub lanes-are : m ≡ filled (rowsOf l n) l
+
+-- lanes filled with the closure
+rows-filled : (l m : Lanes) (R : List Row) (count : ℕ) → m ≡ filled R l → count ≡ length R → rowsOf m count ≡ R
+rows-filled l m R count em ec = rw (em, ec) (filled-rows R l)
+
+module _ (kind : ℕ) (l : Lanes) (n : ℕ) (w : Sound kind l n) (closed : List Row) (c : ClosureOf kind Rule (rowsOf l n) closed) (room : length closed ≤ length (l .subj))
+    (m : Lanes) (count : ℕ) (em : m ≡ filled closed l) (ec : count ≡ length closed) where
+  rows-after : rowsOf m count ≡ closed
+  rows-after = rows-filled l m closed count em ec
+
+  same-length : (lane : Lanes → List ℕ) {k : ℕ} → length (lane (filled closed l)) ≡ k → length (lane m) ≡ k
+  same-length lane e = ap (λ (x : Lanes). length (lane x)) em ∙ e
+
+  closes-by : Closes kind l n m count
+  closes-by =
+      let s = same-length (λ (x : Lanes). x .subj) (filled-lane (λ (x : Row). x .s) closed (length (l .subj)) room) in
+      record {
+        sound = list-sound kind l m n count w s
+            (same-length (λ (x : Lanes). x .pred) (filled-lane (λ (x : Row). x .p) closed (length (l .pred)) (omega (arith, w .pred-long))))
+            (same-length (λ (x : Lanes). x .obj) (filled-lane (λ (x : Row). x .o) closed (length (l .obj)) (omega (arith, w .obj-long))))
+            (same-length (λ (x : Lanes). x .ann) (filled-lane (λ (x : Row). x .a) closed (length (l .ann)) (omega (arith, w .ann-long))))
+            (omega (arith, s))
+            (rw rows-after (c .sound));
+        as-long = s;
+        holds = rw rows-after (c .is-least .holds);
+        is-closed = rw rows-after (c .is-least .is-closed);
+        least = rw rows-after (c .is-least .least);
+        lanes-are = rw rows-after em;
+      }
+
+module _ (kind : ℕ) (l : Lanes) (n : ℕ) (m : Lanes) (place count : ℕ) (a : Closing kind l n m 0 place count) where
+  -- a done closing was of a sound table
+  was-sound : Sound kind l n
+  was-sound = go (decLt 0 (first (tableChecks kind l n) .number))
+    where
+      go : Dec (0 < first (tableChecks kind l n) .number) → Sound kind l n
+      go (yes h) = absurd (omega (arith, ap (λ (v : Verdict). v .number) (a .refused h .0)))
+      go (no h) = passes-sound kind l n (first-done (tableChecks kind l n) (table-numbered kind l n) (omega arith))
+
+  -- and its closure has room
+  pub close-closes : Closes kind l n m count
+  close-closes =
+      let c = closure-exists kind (rowsOf l n) (sound-list kind l n was-sound) in
+      go (c .0) (c .1) (decLt (length (l .subj)) (length (c .0)))
+    where
+      go : (closed : List Row) → ClosureOf kind Rule (rowsOf l n) closed → Dec (length (l .subj) < length closed) → Closes kind l n m count
+      go closed c (yes h) = absurd (omega (arith, ap (λ (v : Verdict). v .number) (a .no-room was-sound closed c h .0)))
+      go closed c (no h) =
+          let room : length closed ≤ length (l .subj) = omega arith in
+          let f = a .fits was-sound closed c room in
+          closes-by kind l n was-sound closed c room m count (f .1) (f .2)
+
+-- a closed table stays
+pub closed-table-stays : (kind : ℕ) (l : Lanes) (n : ℕ) (m : Lanes) (number place count : ℕ) → Sound kind l n → Closed (algebra kind) Rule (graphOf (rowsOf l n))
+    → Closing kind l n m number place count → Stays l n m number count
+closed-table-stays kind l n m number place count s c a =
+    let same : length (rowsOf l n) ≡ n = tab-length n (rowAt l) in
+    let room : length (rowsOf l n) ≤ length (l .subj) = omega (arith, s .within) in
+    let f = a .fits s (rowsOf l n) (closed-is-closure kind Rule (rowsOf l n) (sound-list kind l n s) c) room in
+    record {
+      done-again = ap (λ (v : Verdict). v .number) (f .0);
+      same-count = f .2 ∙ same;
+      same-rows = rows-filled l m (rowsOf l n) count (f .1) (f .2);
+      lanes-are = f .1;
+    }
+
+-- closing twice is closing once
+pub record Unchanged (m m′ : Lanes) (count number′ count′ : ℕ) : Type 0 where
+  pub done-again : number′ ≡ 0
+  pub same-count : count′ ≡ count
+  pub same-lanes : m′ ≡ m
+
+pub close-twice-is-once : (kind : ℕ) (l : Lanes) (n : ℕ) (m m′ : Lanes) (place count number′ place′ count′ : ℕ)
+    → Closing kind l n m 0 place count → Closing kind m count m′ number′ place′ count′ → Unchanged m m′ count number′ count′
+close-twice-is-once kind l n m m′ place count number′ place′ count′ a b =
+    let c = close-closes kind l n m place count a in
+    let w = was-sound kind l n m place count a in
+    let s = closed-table-stays kind m count m′ number′ place′ count′ (c .sound) (c .is-closed) b in
+    let e : length (m .subj) ≡ length (l .subj) = c .as-long in
+    let z = zeroed-alike l m e (c .sound .pred-long ∙ e ∙ sym (w .pred-long)) (c .sound .obj-long ∙ e ∙ sym (w .obj-long)) (c .sound .ann-long ∙ e ∙ sym (w .ann-long)) in
+    record { done-again = s .done-again; same-count = s .same-count; same-lanes = s .lanes-are ∙ ap (laid (rowsOf m count)) z ∙ sym (c .lanes-are) }
