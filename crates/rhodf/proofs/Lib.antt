@@ -13,3 +13,6 @@ pub mod ExistsFor
 -- What is shown for the rules of rho-df.
 pub mod RulesDecided
 pub mod Exists
+pub mod Checking
+pub mod DrawnClosure
+pub mod ExamplesHold
