@@ -60,9 +60,9 @@ agree-equal (e ∷ es) h = rw (eq-eqb (e .0) (e .1) (h .0)) (agree-equal es (h .
 -- premises that do not fit, or a conclusion that is not drawn, or one at most its value
 abbrev isObeyed : Algebra → Graph → List (ℕ × ℕ) → List Triple → Triple → Bool
 isObeyed K G es ps t = elim (allEqual es) [
-    false ↦ true
+  | false ↦ true
   | true ↦ elim (isName (t .p)) [ false ↦ true | true ↦ eqb (K .join (meetAll K G ps) (G t)) (G t) ]
-  ]
+]
 
 module _ (K : Algebra) (rows : List Row) where
   abbrev G : Graph
