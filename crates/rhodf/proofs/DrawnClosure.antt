@@ -64,8 +64,14 @@ module _ (kind : ℕ) where
             (graphOf (drawn ss (addRow (algebra kind) r rows))) (next .is-least);
       }
 
--- for a table and its closure written out: everything asked is told by computing
-pub closure-by : {kind : ℕ} {rows closed : List Row} (steps : List Step) → isSound kind rows ≡ true → areDrawn kind steps rows ≡ true
-    → drawn kind steps rows ≡ closed → isClosed (algebra kind) closed ≡ true → ClosureOf kind Rule rows closed
-closure-by {kind} {rows} {closed} steps sound are e c =
-    rw e at (drawn-closure kind steps rows (sound-holds kind rows sound) are (rw e c))
+-- for a table and its closure written out: sound rows, each step draws, and what stands there is closed
+unfoldable pub isClosedBy : ℕ → List Step → List Row → List Row → Bool
+unfolding algebra addRow valueAt isSound areDrawn drawn isClosed
+isClosedBy kind steps rows closed = allOf (isSound kind rows ∷ areDrawn kind steps rows ∷ isClosed (algebra kind) closed ∷ [])
+
+pub closure-by : {kind : ℕ} {rows closed : List Row} (steps : List Step) → drawn kind steps rows ≡ closed → isClosedBy kind steps rows closed ≡ true
+    → ClosureOf kind Rule rows closed
+unfolding isClosedBy
+closure-by {kind} {rows} {closed} steps e told =
+    let h = all-true (isSound kind rows ∷ areDrawn kind steps rows ∷ isClosed (algebra kind) closed ∷ []) told in
+    rw e at (drawn-closure kind steps rows (sound-holds kind rows (h .0)) (h .1 .0) (rw e (h .1 .1 .0)))
