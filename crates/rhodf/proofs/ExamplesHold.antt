@@ -5,7 +5,7 @@ use Rattle.table.specs.Examples.{Every}
 use Rattle.table.proofs.ExamplesHold.{examples-hold as table-examples-hold}
 use Rattle.rhodf.specs.Rules.{r2b, r3a, r3b, r4b, r5a, r5b}
 use Rattle.rhodf.specs.Examples.{P1, P3, P4, P5, P6, P7, P8, P9, P10, RangeBeyondBlank, ThreeClasses, examples}
-use Rattle.rhodf.proofs.DrawnClosure.{Step, by, isClosedBy, closure-by}
+use Rattle.rhodf.proofs.DrawnClosure.{Conclusion, by, isClosedBy, closure-by}
 
 p1 : P1
 unfolding isClosedBy
@@ -31,23 +31,23 @@ p7 : P7
 unfolding isClosedBy
 p7 = closure-by (by (r5a 16384 12 20 10 30) ∷ []) refl refl
 
-abbrev p8-steps : List Step
-p8-steps = by (r2b 0 40 0 40) ∷ by (r2b 0 40 20 21) ∷ []
+abbrev p8-drawn : List Conclusion
+p8-drawn = by (r2b 0 40 0 40) ∷ by (r2b 0 40 20 21) ∷ []
 
 p8 : P8
 unfolding isClosedBy
-p8 = (closure-by p8-steps refl refl, closure-by p8-steps refl refl, closure-by p8-steps refl refl, closure-by p8-steps refl refl)
+p8 = (closure-by p8-drawn refl refl, closure-by p8-drawn refl refl, closure-by p8-drawn refl refl, closure-by p8-drawn refl refl)
 
 p9 : P9
 unfolding isClosedBy
 p9 = closure-by (by (r3a 5 6 5) ∷ by (r3a 6 5 6) ∷ []) refl refl
 
-abbrev p10-steps : List Step
-p10-steps = by (r4b 20 12 10 32769) ∷ []
+abbrev p10-drawn : List Conclusion
+p10-drawn = by (r4b 20 12 10 32769) ∷ []
 
 p10 : P10
 unfolding isClosedBy
-p10 = (closure-by p10-steps refl refl, closure-by p10-steps refl refl, closure-by p10-steps refl refl, closure-by p10-steps refl refl)
+p10 = (closure-by p10-drawn refl refl, closure-by p10-drawn refl refl, closure-by p10-drawn refl refl, closure-by p10-drawn refl refl)
 
 range-beyond-blank : RangeBeyondBlank
 unfolding isClosedBy
