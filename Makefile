@@ -1,12 +1,18 @@
-# `make run` proves and runs the demonstration; `make test` is the gate.
-.PHONY: run test soak
+# `make run` proves the closing program and runs it on a sample book; `make test` is the gate.
+.PHONY: run test host bench soak
 
 run:
-	rt check table_demo
-	target/bin/table_demo
+	rt check close_book
+	target/bin/close_book < examples/p1.book
 
 test:
 	.ci/run
+
+# The C host over the exported call.
+host:
+	test -f target/staticlib/libtrackvesper.a || rt staticlib trackvesper
+	mkdir -p target/host
+	cc -std=c11 -Wall -Wextra -Werror -O2 -o target/host/close_book examples/close_book.c target/staticlib/libtrackvesper.a
 
 # The proved library against the model for MINUTES, from seed SEED on.
 MINUTES ?= 10
@@ -14,4 +20,9 @@ SEED ?= 1000000
 
 soak:
 	rt staticlib trial_calls
-	cd trial && CARGO_TARGET_DIR=../target/trial cargo run --release --offline --quiet --bin soak -- $(MINUTES) $(SEED)
+	cd trial && CARGO_TARGET_DIR=../target/trial cargo run --release --offline --quiet --package against --bin soak -- $(MINUTES) $(SEED)
+
+# Closing beside a plain Rust closure with hash maps.
+bench:
+	rt staticlib trial_calls
+	cd trial && CARGO_TARGET_DIR=../target/trial cargo run --release --offline --quiet --package against --bin bench

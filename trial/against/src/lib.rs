@@ -4,6 +4,7 @@
 //! A case is dealt from one seed, so a difference is found again by its seed. It is also printed
 //! with its whole input, and goes to `stored` once it is settled.
 
+pub mod baseline;
 pub mod books;
 pub mod calls;
 pub mod closings;
