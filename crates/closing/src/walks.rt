@@ -9,7 +9,7 @@ use crate::plans::plain_plan;
 use annotation::meet;
 use table::places::find;
 use table::put::PutDone;
-use table::put::put;
+use table::put::put_found;
 use table::rows::key_of;
 use term::SP;
 
@@ -49,7 +49,7 @@ fn raise(
             count,
         };
     }
-    put(kind, subj, pred, obj, ann, count, s, p, o, a)
+    put_found(kind, subj, pred, obj, ann, count, s, p, o, a)
 }
 
 fn pick(b: bool, x: u16, y: u16) -> u16

@@ -6,8 +6,9 @@ use Prim.Native.Nat.{ℕ, _+_, _-_, _≤_, _<_}
 use lib.ListN.{length, getD, set, take, drop}
 use lib.Dec.{ltb}
 use Rattle.annotation.specs.Kinds.{algebra}
-use Rattle.table.specs.Rows.{Row, Lanes, rowAt, rowsOf, laid, total}
+use Rattle.table.specs.Rows.{Row, Lanes, key, rowAt, rowsOf, laid, total}
 use Rattle.table.specs.Sound.{Sound, LegalRow}
+use Rattle.table.specs.Places.{Placed}
 use Rattle.table.specs.Adding.{rowsWith}
 
 -- a lane with room made at `at` for v, where n elements count: the rest moves up by one, over element n
@@ -23,6 +24,11 @@ pub record JoinedAt (kind : ℕ) (ann : List ℕ) (at a : ℕ) (ann′ : List �
 pub record PutInto (kind : ℕ) (r : Row) (l : Lanes) (n : ℕ) : Type 0 where
   pub sound : Sound kind l n
   pub legal : LegalRow kind r
+
+-- the same, with the place of the row's key
+pub record PutAt (kind : ℕ) (r : Row) (l : Lanes) (n at : ℕ) : Type 0 where
+  pub into : PutInto kind r l n
+  pub placed : Placed (l .subj) (l .pred) (l .obj) n (key r) at
 
 -- full: the rows with r do not fit the lanes, and nothing is changed; else the lanes hold them
 pub record Put (kind : ℕ) (r : Row) (l : Lanes) (n : ℕ) (m : Lanes) (full changed : Bool) (n′ : ℕ) : Type 0 where

@@ -3,11 +3,12 @@ ghost use mathlib.Core.Path.{_≡_};
 ghost use Prim.Native.Nat.{_<_};
 ghost use lib.ListN.{length};
 ghost use Rattle.table.specs.Rows.{row, lanes, zeroed};
-ghost use Rattle.table.specs.Putting.{JoinedAt, PutInto, Put};
+ghost use Rattle.table.specs.Putting.{JoinedAt, PutInto, PutAt, Put};
 use crate::lane::open_u16;
 use crate::lane::open_u64;
 use crate::lane::zero_u16;
 use crate::lane::zero_u64;
+use crate::places::find;
 use crate::places::place;
 use crate::places::stands;
 use crate::rows::key_of;
@@ -40,23 +41,23 @@ fn join_at(kind: u8, ann: &mut [u64], at: usize, a: u64) -> bool
 }
 
 // Joins the row to the row of its key, or puts it in at its place, or says that there is no room.
-pub fn put(
+fn put_at(
     kind: u8,
     subj: &mut [u16],
     pred: &mut [u16],
     obj: &mut [u16],
     ann: &mut [u64],
     count: usize,
+    at: usize,
     s: u16,
     p: u16,
     o: u16,
     a: u64,
 ) -> PutDone
-    requires { ⌜ PutInto kind (row s p o a) (lanes (now subj) (now pred) (now obj) (now ann)) count ⌝ }
+    requires { ⌜ PutAt kind (row s p o a) (lanes (now subj) (now pred) (now obj) (now ann)) count at ⌝ }
     ensures { λ r. ⌜ Put kind (row s p o a) (lanes (now (subj .entry)) (now (pred .entry)) (now (obj .entry)) (now (ann .entry))) count (lanes (now (subj .exit)) (now (pred .exit)) (now (obj .exit)) (now (ann .exit))) (r .full) (r .changed) (r .count) ⌝ }
 {
     let key = key_of(s, p, o);
-    let at = place(subj, pred, obj, count, key);
     if stands(subj, pred, obj, count, at, key) {
         let changed = join_at(kind, ann, at, a);
         return PutDone {
@@ -81,4 +82,44 @@ pub fn put(
         changed: false,
         count,
     }
+}
+
+// Puts a row in, its place found by walking: for rows that come from outside.
+pub fn put(
+    kind: u8,
+    subj: &mut [u16],
+    pred: &mut [u16],
+    obj: &mut [u16],
+    ann: &mut [u64],
+    count: usize,
+    s: u16,
+    p: u16,
+    o: u16,
+    a: u64,
+) -> PutDone
+    requires { ⌜ PutInto kind (row s p o a) (lanes (now subj) (now pred) (now obj) (now ann)) count ⌝ }
+    ensures { λ r. ⌜ Put kind (row s p o a) (lanes (now (subj .entry)) (now (pred .entry)) (now (obj .entry)) (now (ann .entry))) count (lanes (now (subj .exit)) (now (pred .exit)) (now (obj .exit)) (now (ann .exit))) (r .full) (r .changed) (r .count) ⌝ }
+{
+    let at = place(subj, pred, obj, count, key_of(s, p, o));
+    put_at(kind, subj, pred, obj, ann, count, at, s, p, o, a)
+}
+
+// The same, its place found by halving: for rows that are mostly there already.
+pub fn put_found(
+    kind: u8,
+    subj: &mut [u16],
+    pred: &mut [u16],
+    obj: &mut [u16],
+    ann: &mut [u64],
+    count: usize,
+    s: u16,
+    p: u16,
+    o: u16,
+    a: u64,
+) -> PutDone
+    requires { ⌜ PutInto kind (row s p o a) (lanes (now subj) (now pred) (now obj) (now ann)) count ⌝ }
+    ensures { λ r. ⌜ Put kind (row s p o a) (lanes (now (subj .entry)) (now (pred .entry)) (now (obj .entry)) (now (ann .entry))) count (lanes (now (subj .exit)) (now (pred .exit)) (now (obj .exit)) (now (ann .exit))) (r .full) (r .changed) (r .count) ⌝ }
+{
+    let at = find(subj, pred, obj, count, key_of(s, p, o));
+    put_at(kind, subj, pred, obj, ann, count, at, s, p, o, a)
 }

@@ -26,8 +26,8 @@ returns-2 c =
     let the-if2 = c .if2 in
     raised-bottom (the-args .kind) (row (the-args .s) (the-args .p) (the-args .o) (the-args .a)) (lanes (the-args .subj .now) (the-args .pred .now) (the-args .obj .now) (the-args .ann .now)) (the-args .count) (the-pre) (the-if2 .taken)
 
-put-requires : tie.Need-put-requires
-put-requires c κs =
+put-found-requires : tie.Need-put-found-requires
+put-found-requires c κs =
     let the-args = c .before .before .before .before .before .before .before .before .before .before .before .args in
     let the-pre = c .before .before .before .before .before .before .before .before .before .before .before .pre in
     let the-sort-of = c .before .before .before .before .before .before .sort-of in
@@ -54,7 +54,7 @@ returns-3 c =
     let the-sort-of = c .before .before .before .before .before .before .before .before .before .before .before .before .before .before .before .sort-of in
     let the-if1 = c .before .before .before .before .before .before .before .before .before .before .before .before .before .before .if1 in
     let the-if2 = c .before .before .before .before .before .before .before .before .before .before .before .before .before .if2 in
-    let the-put = c .before .before .before .before .before .before .before .before .put in
+    let the-put = c .before .before .before .before .before .before .before .before .put-found in
     raised-put (the-args .kind) (row (the-args .s) (the-args .p) (the-args .o) (the-args .a)) (lanes (the-args .subj .now) (the-args .pred .now) (the-args .obj .now) (the-args .ann .now)) (the-args .count) (the-pre) (eq-eqb _ _ (sym (the-sort-of .ensures) ∙ the-if1 .left)) (omega (arith, the-if2 .left)) _ _ _ _ (the-put .ensures)
 
 pub raise-spec : {M : Type 1} → statement M
@@ -64,7 +64,7 @@ raise-spec =
     sort-of-requires
     returns
     returns-2
-    put-requires
+    put-found-requires
     same-length
     same-length-2
     same-length-3

@@ -1,6 +1,4 @@
--- Joined, put in, or full: a law each.
-use native.Mathlib.Omega.{arith}
-use Rattle.table.proofs.Putting.{put-joined, put-in, put-full}
+-- At the place found.
 use borrow.Author.Needs.{needs}
 use Rattle.table.proofs.put.put.Statement.{statement}
 use Rattle.table.proofs.put.put.Tie as tie
@@ -11,15 +9,12 @@ key-of-requires c κs = search needs
 place-requires : tie.Need-place-requires
 place-requires c κs = search needs
 
-stands-requires : tie.Need-stands-requires
-stands-requires c κs = search needs
-
-join-at-requires : tie.Need-join-at-requires
-join-at-requires c κs =
-    let the-stands = c .before .before .stands in
-    let the-if1 = c .before .if1 in
-    let the-pre = c .before .before .before .before .before .before .before .before .before .before .before .before .before .before .before .pre in
-    omega (arith, the-stands .ensures .there (the-if1 .taken), the-pre .sound .within, the-pre .sound .ann-long)
+put-at-requires : tie.Need-put-at-requires
+put-at-requires c κs =
+    let the-pre = c .before .before .before .before .before .before .before .before .before .before .before .before .before .pre in
+    let the-key-of = c .before .before .before .before .before .key-of in
+    let the-place = c .before .before .before .before .place in
+    record { into = the-pre; placed = rw (← the-key-of .ensures) (the-place .ensures) }
 
 same-length : tie.Need-same-length
 same-length c = search needs
@@ -34,91 +29,7 @@ same-length-4 : tie.Need-same-length-4
 same-length-4 c = search needs
 
 returns : tie.Need-returns
-returns c =
-    let the-args = c .before .before .before .before .before .before .before .before .before .before .before .before .before .before .before .before .before .before .args in
-    let the-key-of = c .before .before .before .before .before .before .before .before .before .before .before .before .before .key-of in
-    let the-place = c .before .before .before .before .before .before .before .before .before .place in
-    let the-pre = c .before .before .before .before .before .before .before .before .before .before .before .before .before .before .before .before .before .before .pre in
-    let the-stands = c .before .before .before .before .before .stands in
-    let the-if1 = c .before .before .before .before .if1 in
-    let the-join-at = c .before .before .join-at in
-    put-joined (the-args .kind) (the-args .subj .now) (the-args .pred .now) (the-args .obj .now) (the-args .ann .now) (the-args .count) (the-args .s) (the-args .p) (the-args .o) (the-args .a) (the-key-of .result) (the-place .result)
-    (the-pre) (the-key-of .ensures) (the-place .ensures)
-    _ _ (the-stands .ensures .there (the-if1 .taken) .0) (the-stands .ensures .there (the-if1 .taken) .1) (the-join-at .ensures)
-
-open-u16-requires : tie.Need-open-u16-requires
-open-u16-requires c κs = search needs
-
-open-u16-requires-2 : tie.Need-open-u16-requires-2
-open-u16-requires-2 c κs = search needs
-
-open-u16-requires-3 : tie.Need-open-u16-requires-3
-open-u16-requires-3 c κs = search needs
-
-open-u64-requires : tie.Need-open-u64-requires
-open-u64-requires c κs =
-    let the-place = c .before .before .before .before .before .before .before .before .before .before .before .before .before .before .before .before .before .before .before .place in
-    let the-pre = c .before .before .before .before .before .before .before .before .before .before .before .before .before .before .before .before .before .before .before .before .before .before .before .before .before .before .before .before .pre in
-    let the-if2 = c .before .before .before .before .before .before .before .before .before .before .before .before .before .if2 in
-    omega (arith, the-place .ensures .within, the-pre .sound .ann-long, the-if2 .taken)
-
-add-t40 : tie.Need-add-t40
-add-t40 c =
-    let the-if2 = c .before .before .before .before .before .before .before .before .before .before .before .before .before .before .before .before .if2 in
-    let the-good = c .before .before .before .before .before .before .before .before .before .before .before .before .before .before .before .before .before .before .before .before .before .before .before .before .before .before .before .before .before .before .before .good in
-    omega (arith, the-if2 .taken, the-good)
-
-same-length-5 : tie.Need-same-length-5
-same-length-5 c = search needs
-
-same-length-6 : tie.Need-same-length-6
-same-length-6 c = search needs
-
-same-length-7 : tie.Need-same-length-7
-same-length-7 c = search needs
-
-same-length-8 : tie.Need-same-length-8
-same-length-8 c = search needs
-
-returns-2 : tie.Need-returns-2
-returns-2 c =
-    let the-open-u16 = c .before .before .before .before .before .before .before .before .before .before .before .before .before .before .open-u16 in
-    let the-open-u162 = c .before .before .before .before .before .before .before .before .before .before .open-u162 in
-    let the-open-u163 = c .before .before .before .before .before .before .open-u163 in
-    let the-open-u64 = c .before .before .open-u64 in
-    let the-args = c .before .before .before .before .before .before .before .before .before .before .before .before .before .before .before .before .before .before .before .before .before .before .before .before .before .before .before .before .before .before .before .args in
-    let the-key-of = c .before .before .before .before .before .before .before .before .before .before .before .before .before .before .before .before .before .before .before .before .before .before .before .before .before .before .key-of in
-    let the-place = c .before .before .before .before .before .before .before .before .before .before .before .before .before .before .before .before .before .before .before .before .before .before .place in
-    let the-pre = c .before .before .before .before .before .before .before .before .before .before .before .before .before .before .before .before .before .before .before .before .before .before .before .before .before .before .before .before .before .before .before .pre in
-    let the-stands = c .before .before .before .before .before .before .before .before .before .before .before .before .before .before .before .before .before .before .stands in
-    let the-if1 = c .before .before .before .before .before .before .before .before .before .before .before .before .before .before .before .before .before .if1 in
-    let the-if2 = c .before .before .before .before .before .before .before .before .before .before .before .before .before .before .before .before .if2 in
-    rw (the-open-u16 .ensures, the-open-u162 .ensures, the-open-u163 .ensures, the-open-u64 .ensures)
-    (put-in (the-args .kind) (the-args .subj .now) (the-args .pred .now) (the-args .obj .now) (the-args .ann .now) (the-args .count) (the-args .s) (the-args .p) (the-args .o) (the-args .a) (the-key-of .result) (the-place .result)
-    (the-pre) (the-key-of .ensures) (the-place .ensures)
-    (the-stands .ensures .missing (the-if1 .left)) (the-if2 .taken))
-
-same-length-9 : tie.Need-same-length-9
-same-length-9 c = search needs
-
-same-length-10 : tie.Need-same-length-10
-same-length-10 c = search needs
-
-same-length-11 : tie.Need-same-length-11
-same-length-11 c = search needs
-
-returns-3 : tie.Need-returns-3
-returns-3 c =
-    let the-args = c .before .before .before .before .before .before .before .before .before .before .before .before .before .before .before .args in
-    let the-key-of = c .before .before .before .before .before .before .before .before .before .before .key-of in
-    let the-place = c .before .before .before .before .before .before .place in
-    let the-pre = c .before .before .before .before .before .before .before .before .before .before .before .before .before .before .before .pre in
-    let the-stands = c .before .before .stands in
-    let the-if1 = c .before .if1 in
-    let the-if2 = c .if2 in
-    put-full (the-args .kind) (the-args .subj .now) (the-args .pred .now) (the-args .obj .now) (the-args .ann .now) (the-args .count) (the-args .s) (the-args .p) (the-args .o) (the-args .a) (the-key-of .result) (the-place .result)
-    (the-pre) (the-key-of .ensures) (the-place .ensures)
-    (the-stands .ensures .missing (the-if1 .left)) (the-if2 .left)
+returns c = search needs
 
 pub put-spec : {M : Type 1} → statement M
 put-spec =
@@ -126,24 +37,9 @@ put-spec =
     (tie.spec
     key-of-requires
     place-requires
-    stands-requires
-    join-at-requires
+    put-at-requires
     same-length
     same-length-2
     same-length-3
     same-length-4
-    returns
-    open-u16-requires
-    open-u16-requires-2
-    open-u16-requires-3
-    open-u64-requires
-    add-t40
-    same-length-5
-    same-length-6
-    same-length-7
-    same-length-8
-    returns-2
-    same-length-9
-    same-length-10
-    same-length-11
-    returns-3)
+    returns)
