@@ -1,5 +1,5 @@
 -- The invariant: the rows passed obey every rule, if nothing changed.
-use Prim.Native.Nat.{_-_, _<_}
+use Prim.Native.Nat.{_-_}
 use native.Mathlib.Omega.{arith}
 use mathlib.Core.Bool.{true≢false}
 use lib.ListN.{length}
