@@ -14,7 +14,7 @@ use Rattle.term.proofs.Firsts.{first-left, first-clear, first-split, first-done
 use Rattle.annotation.specs.Kinds.{algebra, kindChecks}
 use Rattle.table.specs.Rows.{Row, Lanes, lanes, rowAt, rowsOf, addAll, filled, zeroed}
 use Rattle.table.specs.Checks.{isUnfit, tableChecks}
-use Rattle.table.specs.Sound.{Ascending, AllLegal, SoundRows, Sound}
+use Rattle.table.specs.Sound.{AllLegal, SoundRows, Sound}
 use Rattle.table.proofs.Tab.{tab-length, laid-rows}
 use Rattle.table.proofs.Soundness.{sound-list}
 use Rattle.table.proofs.Many.{Perm, any-order, add-all-ascending}
@@ -23,10 +23,7 @@ use Rattle.book.specs.Reading.{Read, readAs, readBook, lendChecks, readi
 use Rattle.book.specs.Writing.{bookLength, writeChecks, writeDone, Writing}
 use Rattle.book.proofs.Writes.{length-head, length-fields, write-sound}
 use Rattle.book.proofs.RoundTrip.{book-reads}
-
-no-rows : (kind : ℕ) → SoundRows kind []
-unfolding Ascending AllLegal
-no-rows kind = record { ascending = tt; legal = tt }
+use Rattle.book.proofs.ReadsSound.{no-rows}
 
 -- the fields of a book in any order read to the same
 pub order-is-free : (kind base room : ℕ) → 1 ≤ kind → kind ≤ 4 → isBase kind base ≡ true → base < 65536

@@ -8,3 +8,4 @@ pub mod RoundTrip
 -- What is shown of the public calls.
 pub mod BookDetermined
 pub mod BookReadsBack
+pub mod ReadsSound

@@ -1,25 +1,24 @@
 -- Reading as a whole: refused by the lanes, the length, the head or a field, or done. Assumes nothing.
 use mathlib.Core.Path.{_≡_, refl, sym, ap, _∙_}
-use mathlib.Core.Bool.{Bool, true, false, cond, not, _&&_}
+use mathlib.Core.Bool.{Bool, true, false, cond}
 use mathlib.Core.List.{List, [], _∷_, _++_}
 use Prim.Native.Nat.{ℕ, _+_, _≤_, _<_}
 use native.Mathlib.Omega.{arith}
 use lib.ListN.{length, replicate, length-replicate}
-use lib.Dec.{eqb, leb, ltb}
-use borrow.Author.Tests.{eq-eqb, ne-eqb, lt-ltb, le-ltb, not-false, leb-true}
+use lib.Dec.{eqb, ltb}
+use borrow.Author.Tests.{eq-eqb, ne-eqb, lt-ltb, le-ltb}
 use Rattle.term.specs.Refusal.{refuse, verdict, done, first}
 use Rattle.term.specs.declared.refusal.Verdict.{Verdict}
-use Rattle.term.proofs.Firsts.{AllAt, first-holds, first-passes, first-none, first-place, first-done, Numbered, first-split}
-use Rattle.annotation.specs.Kinds.{kindChecks}
+use Rattle.term.proofs.Firsts.{first-holds, first-passes, first-none, first-place, first-done}
 use Rattle.table.specs.Rows.{Row, Lanes, lanes, rowsOf, laid, zeroed, filled}
 use Rattle.table.specs.Checks.{isUnfit}
 use Rattle.table.specs.Sound.{Sound}
-use Rattle.table.proofs.Tab.{tab-length, zero-row}
-use Rattle.table.proofs.Soundness.{Fit, fit-of, both}
-use Rattle.field.specs.Fields.{isCut, tagAt, sizeAt}
-use Rattle.book.specs.Format.{headChecks, headEdition, headKind, headBase, isBase}
+use Rattle.table.proofs.Tab.{tab-length, zero-row, zeroed-alike}
+use Rattle.table.proofs.Soundness.{Fit, fit-of}
+use Rattle.book.specs.Format.{headChecks, headKind, headBase}
 use Rattle.book.specs.Reading.{Read, refused, readAs, whenDone, goOn, fieldsFrom, readBook, lendChecks, reading, Reading}
 use Rattle.book.specs.Inner.{HeadOf, Fresh, FieldsRead, BodyRead}
+use Rattle.book.proofs.ReadsSound.{LegalHead, head-numbered, head-at, legal-head}
 
 -- a refused answer, as the code makes it
 pub record Answer (number place n p k b c : ℕ) : Type 0 where
@@ -39,7 +38,7 @@ module _ (kind base : ℕ) (b : List ℕ) (l : Lanes) (fresh : Fresh kind l) (m 
       let g = f .sound in
       let s = fresh .sound in
       let e = f .as-long in
-      rw (g .pred-long ∙ e ∙ sym (s .pred-long), g .obj-long ∙ e ∙ sym (s .obj-long), g .ann-long ∙ e ∙ sym (s .ann-long), e) refl
+      zeroed-alike l m e (g .pred-long ∙ e ∙ sym (s .pred-long)) (g .obj-long ∙ e ∙ sym (s .obj-long)) (g .ann-long ∙ e ∙ sym (s .ann-long))
 
   pub body-refused : 0 < number → (m′ : Lanes) (n p k b′ c : ℕ) → m′ ≡ zeroed m → Answer number place n p k b′ c → BodyRead kind base b l m′ n p k b′ c
   body-refused h m′ n p k b′ c em a =
@@ -64,24 +63,6 @@ module _ (kind base : ℕ) (b : List ℕ) (l : Lanes) (fresh : Fresh kind l) (m 
         count-is = sym (tab-length count _) ∙ ap (λ (r : Read). length (r .rows)) (sym w);
         lanes-are = f .filled-is z ∙ ap (λ (r : Read). filled (r .rows) l) (sym w);
       }
-
-head-numbered : (b : List ℕ) → Numbered (headChecks b)
-head-numbered b = (omega arith, (omega arith, (omega arith, (omega arith, (omega arith, (omega arith, (omega arith, tt)))))))
-
-head-at : (b : List ℕ) → AllAt 0 (headChecks b)
-head-at b = (refl, (refl, (refl, (refl, (refl, (refl, (refl, tt)))))))
-
--- a head that passes has a legal kind
-head-legal : (b : List ℕ) → first (headChecks b) ≡ done → (1 ≤ headKind b) × (headKind b ≤ 4)
-head-legal b e =
-    let e2 = first-split 2 0 (eqb (length b) 0) _ (omega arith) e in
-    let e1 = first-split 1 0 (isCut b 0) _ (omega arith) (e2 .1) in
-    let t = first-split 2 0 (not (eqb (tagAt b 0) 1)) _ (omega arith) (e1 .1) in
-    let s = first-split 2 0 (not (eqb (sizeAt b 0) 4)) _ (omega arith) (t .1) in
-    let d = first-split 3 0 (not (eqb (headEdition b) 1)) _ (omega arith) (s .1) in
-    let k = first-split 4 0 (not (leb 1 (headKind b) && leb (headKind b) 4)) _ (omega arith) (d .1) in
-    let w = both (leb 1 (headKind b)) (leb (headKind b) 4) (not-false _ (k .0)) in
-    (leb-true 1 (headKind b) (w .0), leb-true (headKind b) 4 (w .1))
 
 -- the whole call
 module _ (b : List ℕ) (l : Lanes) where
@@ -146,14 +127,14 @@ module _ (b : List ℕ) (l : Lanes) where
 
           pub read-fresh : Fresh kind (zeroed l)
           read-fresh =
-              let k = head-legal b passes in
+              let k = legal-head b (sym (h .number-is) ∙ none) in
               let ek = h .kind-is none in
               let fit = fit-of kind l 0 fits in
               let es = length-replicate {A = ℕ} (length (l .subj)) 0 in
               record {
                 sound = record {
-                  kind-from = omega (arith, k .0, ek);
-                  kind-to = omega (arith, k .1, ek);
+                  kind-from = omega (arith, k .kind-from, ek);
+                  kind-to = omega (arith, k .kind-to, ek);
                   pred-long = length-replicate {A = ℕ} (length (l .pred)) 0 ∙ fit .pred-long ∙ sym es;
                   obj-long = length-replicate {A = ℕ} (length (l .obj)) 0 ∙ fit .obj-long ∙ sym es;
                   ann-long = length-replicate {A = ℕ} (length (l .ann)) 0 ∙ fit .ann-long ∙ sym es;

@@ -13,3 +13,7 @@ pub mod ExistsFor
 -- What is shown for the rules of rho-df.
 pub mod RulesDecided
 pub mod Exists
+-- The bench examples, by tests that compute.
+pub mod Checking
+pub mod DrawnClosure
+pub mod ExamplesHold

@@ -13,28 +13,28 @@ use Rattle.rhodf.proofs.Drawing.{KeepLegal, closed-where-held}
 use Rattle.rhodf.proofs.Deciding.{Decided, Agree, OfTwo, OfThree, ObeyedByTwo, ObeyedByThree, obeyed-by-two, obeyed-by-three}
 
 -- each rule, by the terms of its premises that are to be equal
-abbrev rule-2a : OfTwo
+abbrev pub rule-2a : OfTwo
 rule-2a = record { where-equal = λ x y. (x .p, sp) ∷ (y .p, sp) ∷ (x .o, y .s) ∷ []; gives = λ x y. triple (x .s) sp (y .o) }
 
-abbrev rule-2b : OfTwo
+abbrev pub rule-2b : OfTwo
 rule-2b = record { where-equal = λ x y. (x .p, sp) ∷ (y .p, x .s) ∷ []; gives = λ x y. triple (y .s) (x .o) (y .o) }
 
-abbrev rule-3a : OfTwo
+abbrev pub rule-3a : OfTwo
 rule-3a = record { where-equal = λ x y. (x .p, sc) ∷ (y .p, sc) ∷ (x .o, y .s) ∷ []; gives = λ x y. triple (x .s) sc (y .o) }
 
-abbrev rule-3b : OfTwo
+abbrev pub rule-3b : OfTwo
 rule-3b = record { where-equal = λ x y. (x .p, sc) ∷ (y .p, type) ∷ (y .o, x .s) ∷ []; gives = λ x y. triple (y .s) type (x .o) }
 
-abbrev rule-4a : OfTwo
+abbrev pub rule-4a : OfTwo
 rule-4a = record { where-equal = λ x y. (x .p, dom) ∷ (y .p, x .s) ∷ []; gives = λ x y. triple (y .s) type (x .o) }
 
-abbrev rule-4b : OfTwo
+abbrev pub rule-4b : OfTwo
 rule-4b = record { where-equal = λ x y. (x .p, range) ∷ (y .p, x .s) ∷ []; gives = λ x y. triple (y .o) type (x .o) }
 
-abbrev rule-5a : OfThree
+abbrev pub rule-5a : OfThree
 rule-5a = record { where-equal = λ x y z. (x .p, dom) ∷ (y .p, sp) ∷ (y .o, x .s) ∷ (z .p, y .s) ∷ []; gives = λ x y z. triple (z .s) type (x .o) }
 
-abbrev rule-5b : OfThree
+abbrev pub rule-5b : OfThree
 rule-5b = record { where-equal = λ x y z. (x .p, range) ∷ (y .p, sp) ∷ (y .o, x .s) ∷ (z .p, y .s) ∷ []; gives = λ x y z. triple (z .o) type (x .o) }
 
 fits-2a : (x y : Triple) → Agree (rule-2a .where-equal x y) → Rule (x ∷ y ∷ []) (rule-2a .gives x y)
@@ -65,7 +65,7 @@ fits-5b x y z f = rw (f .0, f .1 .0, f .1 .1 .0, f .1 .1 .1 .0) (r5b (x .s) (x .
 module _ (K : Algebra) (G : Graph)
     (o2a : ObeyedByTwo K G rule-2a) (o2b : ObeyedByTwo K G rule-2b) (o3a : ObeyedByTwo K G rule-3a) (o3b : ObeyedByTwo K G rule-3b)
     (o4a : ObeyedByTwo K G rule-4a) (o4b : ObeyedByTwo K G rule-4b) (o5a : ObeyedByThree K G rule-5a) (o5b : ObeyedByThree K G rule-5b) where
-  closed-by-rules : (ps : List Triple) (t : Triple) → Rule ps t → AllHeld G ps → Drawn t → AtMost K (meetAll K G ps) (G t)
+  pub closed-by-rules : (ps : List Triple) (t : Triple) → Rule ps t → AllHeld G ps → Drawn t → AtMost K (meetAll K G ps) (G t)
   closed-by-rules ps t (r2a a b c) h named = o2a (triple a sp b) (h .0) (triple b sp c) (h .1 .0) (refl, (refl, (refl, tt))) named
   closed-by-rules ps t (r2b d e x y) h named = o2b (triple d sp e) (h .0) (triple x d y) (h .1 .0) (refl, (refl, tt)) named
   closed-by-rules ps t (r3a a b c) h named = o3a (triple a sc b) (h .0) (triple b sc c) (h .1 .0) (refl, (refl, (refl, tt))) named

@@ -2,3 +2,4 @@
 pub mod Graph
 pub mod Rules
 pub mod Closure
+pub mod Examples

@@ -18,15 +18,12 @@ use Rattle.table.specs.Rows.{Triple, Row, Lanes, lanes, rowsOf, tab, lai
 use Rattle.table.specs.Checks.{tableChecks, tripleChecks}
 use Rattle.table.specs.Sound.{LegalRow, Sound, SoundRows}
 use Rattle.table.specs.Adding.{rowsWith, addChecks, addDone, Adding}
-use Rattle.table.proofs.Tab.{laid-rows}
+use Rattle.table.proofs.Tab.{laid-rows, laid-long}
 use Rattle.table.proofs.Judging.{table-numbered, triple-numbered}
 use Rattle.table.proofs.Soundness.{passes-sound, sound-passes, triple-legal, triple-passes, sound-list, list-sound}
 use Rattle.table.proofs.Putting.{sound-add}
 use Rattle.table.proofs.Ordering.{add-twice}
 use Rattle.table.proofs.Values.{Small, legal-small, all-legal-small, tripleOf, is-triple, value-add-same, value-add-other}
-
-laid-long : (f : Row → ℕ) (R : List Row) (l : List ℕ) → length R ≤ length l → length (map f R ++ drop (length R) l) ≡ length l
-laid-long f R l h = simp (length-append, length-map, length-drop) (omega arith)
 
 pub laid-again : (f : Row → ℕ) (R : List Row) (l : List ℕ) → drop (length R) (map f R ++ drop (length R) l) ≡ drop (length R) l
 laid-again f R l = drop-at (map f R) (drop (length R) l) (length R) (length-map R f)

@@ -180,19 +180,27 @@ tab-all-legal kind (suc n) f h (suc i) q = tab-all-legal kind n (λ i. f (suc i)
 pub sound-list : (kind : ℕ) (l : Lanes) (n : ℕ) → Sound kind l n → SoundRows kind (rowsOf l n)
 sound-list kind l n h = record { ascending = ascending-tab n (rowAt l) (h .ascending); legal = all-legal-tab kind n (rowAt l) (h .legal) }
 
+-- lanes that fit, with sound rows, are a sound table
+pub rows-sound : (kind : ℕ) (m : Lanes) (n : ℕ) → 1 ≤ kind → kind ≤ 4
+    → length (m .pred) ≡ length (m .subj) → length (m .obj) ≡ length (m .subj) → length (m .ann) ≡ length (m .subj)
+    → length (m .subj) ≤ 1024 → n ≤ length (m .subj) → SoundRows kind (rowsOf m n) → Sound kind m n
+rows-sound kind m n from to lp lo la long fit rows = record {
+  kind-from = from;
+  kind-to = to;
+  pred-long = lp;
+  obj-long = lo;
+  ann-long = la;
+  long = long;
+  within = fit;
+  legal = tab-all-legal kind n (rowAt m) (rows .legal);
+  ascending = tab-ascending n (rowAt m) (rows .ascending);
+}
+
 -- lanes as long as those of a sound table, with sound rows, are a sound table
 pub list-sound : (kind : ℕ) (l m : Lanes) (n n′ : ℕ) → Sound kind l n
     → length (m .subj) ≡ length (l .subj) → length (m .pred) ≡ length (l .pred)
     → length (m .obj) ≡ length (l .obj) → length (m .ann) ≡ length (l .ann)
     → n′ ≤ length (m .subj) → SoundRows kind (rowsOf m n′) → Sound kind m n′
-list-sound kind l m n n′ h ls lp lo la fit rows = record {
-  kind-from = h .kind-from;
-  kind-to = h .kind-to;
-  pred-long = lp ∙ h .pred-long ∙ sym ls;
-  obj-long = lo ∙ h .obj-long ∙ sym ls;
-  ann-long = la ∙ h .ann-long ∙ sym ls;
-  long = omega (arith, h .long, ls);
-  within = fit;
-  legal = tab-all-legal kind n′ (rowAt m) (rows .legal);
-  ascending = tab-ascending n′ (rowAt m) (rows .ascending);
-}
+list-sound kind l m n n′ h ls lp lo la fit rows =
+    rows-sound kind m n′ (h .kind-from) (h .kind-to) (lp ∙ h .pred-long ∙ sym ls) (lo ∙ h .obj-long ∙ sym ls) (la ∙ h .ann-long ∙ sym ls)
+    (omega (arith, h .long, ls)) fit rows

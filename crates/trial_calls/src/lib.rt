@@ -6,6 +6,8 @@ ghost use Rattle.table.specs.Checks.{tableChecks};
 ghost use Rattle.table.specs.Adding.{Adding};
 ghost use Rattle.book.specs.Reading.{Reading};
 ghost use Rattle.book.specs.Writing.{Writing};
+ghost use Rattle.closing.specs.Closing.{Closing};
+ghost use Rattle.trackvesper.specs.ClosedBook.{ClosedBook};
 
 #[no_mangle]
 pub extern "C" fn trial_check(
@@ -88,4 +90,31 @@ pub extern "C" fn trial_write(
     *place = answer.place;
     *length = answer.length;
     answer.number
+}
+
+// count goes in as the table's count and comes out as the new one.
+#[no_mangle]
+pub extern "C" fn trial_close(
+    kind: u8,
+    subj: &mut [u16],
+    pred: &mut [u16],
+    obj: &mut [u16],
+    ann: &mut [u64],
+    count: &mut usize,
+    place: &mut usize,
+) -> u8
+    ensures { λ r. ⌜ Closing kind (lanes (now (subj .entry)) (now (pred .entry)) (now (obj .entry)) (now (ann .entry))) (now (count .entry)) (lanes (now (subj .exit)) (now (pred .exit)) (now (obj .exit)) (now (ann .exit))) r (now (place .exit)) (now (count .exit)) ⌝ }
+{
+    let answer = closing::close(kind, subj, pred, obj, ann, *count);
+    *count = answer.count;
+    *place = answer.place;
+    answer.number
+}
+
+// The exported call under a name of the trial's own.
+#[no_mangle]
+pub extern "C" fn trial_close_book(book: &[u8], out: &mut [u8]) -> u64
+    ensures { λ r. ⌜ ClosedBook (now (book .entry)) (now (out .entry)) (now (out .exit)) r ⌝ }
+{
+    trackvesper::trackvesper_close_book(book, out)
 }

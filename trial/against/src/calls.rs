@@ -4,6 +4,7 @@
 //! and a length, a reference as a pointer.
 
 use trial::book::{ReadOut, WriteOut};
+use trial::closing::CloseOut;
 use trial::table::{Added, Lanes, Row, Verdict};
 
 extern "C" {
@@ -73,6 +74,22 @@ extern "C" {
         place: *mut usize,
         length: *mut usize,
     ) -> u8;
+
+    fn trial_close(
+        kind: u8,
+        subj: *mut u16,
+        subj_len: usize,
+        pred: *mut u16,
+        pred_len: usize,
+        obj: *mut u16,
+        obj_len: usize,
+        ann: *mut u64,
+        ann_len: usize,
+        count: *mut usize,
+        place: *mut usize,
+    ) -> u8;
+
+    fn trial_close_book(book: *const u8, book_len: usize, out: *mut u8, out_len: usize) -> u64;
 }
 
 pub fn check(kind: u8, lanes: &Lanes, count: usize) -> Verdict {
@@ -170,4 +187,30 @@ pub fn write(kind: u8, base: u16, lanes: &Lanes, count: usize, out: &mut [u8]) -
         )
     };
     WriteOut { number: u32::from(number), place: place as u64, length }
+}
+
+pub fn close(kind: u8, lanes: &mut Lanes, mut count: usize) -> CloseOut {
+    let mut place = usize::MAX;
+    // SAFETY: the lanes are live for the call, borrowed for it alone, and do not overlap.
+    let number = unsafe {
+        trial_close(
+            kind,
+            lanes.subj.as_mut_ptr(),
+            lanes.subj.len(),
+            lanes.pred.as_mut_ptr(),
+            lanes.pred.len(),
+            lanes.obj.as_mut_ptr(),
+            lanes.obj.len(),
+            lanes.ann.as_mut_ptr(),
+            lanes.ann.len(),
+            &mut count,
+            &mut place,
+        )
+    };
+    CloseOut { number: u32::from(number), place: place as u64, count }
+}
+
+pub fn close_book(book: &[u8], out: &mut [u8]) -> u64 {
+    // SAFETY: both slices are live for the call and do not overlap.
+    unsafe { trial_close_book(book.as_ptr(), book.len(), out.as_mut_ptr(), out.len()) }
 }

@@ -6,6 +6,7 @@
 
 pub mod books;
 pub mod calls;
+pub mod closings;
 pub mod stored;
 pub mod tables;
 
@@ -16,11 +17,13 @@ pub type Difference = String;
 pub type Case = fn(u64) -> Result<(), Difference>;
 
 /// Every kind of case, by name.
-pub const CASES: [(&str, Case); 4] = [
+pub const CASES: [(&str, Case); 6] = [
     ("check", tables::check),
     ("add", tables::add),
     ("read", books::read),
     ("write", books::write),
+    ("close", closings::close),
+    ("close book", closings::close_book),
 ];
 
 /// Compares what the two gave; `input` is only put together where they differ.

@@ -99,3 +99,69 @@ pub fn books() -> Vec<Book> {
         ("an equal triple joins on a full table", behind(&[&one, &field(10, 2, 11, 2)]), 1, 0, 0),
     ]
 }
+
+fn book(kind: u8, rows: &[(u16, u16, u16, u64)]) -> Vec<u8> {
+    let base = if kind == 1 { 2000 } else { 0 };
+    let fields = rows.iter().map(|(s, p, o, a)| field(*s, *p, *o, *a));
+    [head(1, kind, base), fields.collect::<Vec<_>>().concat()].concat()
+}
+
+/// A name, a book, and what the closing program must write for it.
+pub type Listing = (&'static str, Vec<u8>, &'static str);
+
+pub fn listings() -> Vec<Listing> {
+    let top = 1000;
+    vec![
+        ("P1", p1(), "closed 1 2000 3\n10 2 11 120\n10 2 12 96\n11 1 12 2016\n"),
+        ("P2", book(1, &[(10, 2, 11, 7), (10, 2, 11, 224)]), "closed 1 2000 1\n10 2 11 231\n"),
+        (
+            "P3",
+            book(1, &[(10, 2, 11, 7), (11, 1, 12, 224)]),
+            "closed 1 2000 2\n10 2 11 7\n11 1 12 224\n",
+        ),
+        (
+            "P4, kind 3",
+            book(3, &[(10, 2, 11, 700), (11, 1, 12, 500)]),
+            "closed 3 0 3\n10 2 11 700\n10 2 12 500\n11 1 12 500\n",
+        ),
+        (
+            "P4, kind 4",
+            book(4, &[(10, 2, 11, 700), (11, 1, 12, 500)]),
+            "closed 4 0 3\n10 2 11 700\n10 2 12 200\n11 1 12 500\n",
+        ),
+        (
+            "P5",
+            book(4, &[(10, 2, 11, 400), (11, 1, 12, 600)]),
+            "closed 4 0 2\n10 2 11 400\n11 1 12 600\n",
+        ),
+        (
+            "P6",
+            book(4, &[(10, 2, 11, 900), (11, 1, 13, 800), (10, 2, 12, 1000), (12, 1, 13, 600)]),
+            "closed 4 0 5\n10 2 11 900\n10 2 12 1000\n10 2 13 700\n11 1 13 800\n12 1 13 600\n",
+        ),
+        (
+            "P7",
+            book(3, &[(20, 0, 16_384, top), (16_384, 3, 12, 900), (10, 20, 30, 800)]),
+            "closed 3 0 4\n10 2 12 800\n10 20 30 800\n20 0 16384 1000\n16384 3 12 900\n",
+        ),
+        (
+            "P8",
+            book(3, &[(0, 0, 40, top), (20, 0, 21, top)]),
+            "closed 3 0 4\n0 0 40 1000\n0 40 40 1000\n20 0 21 1000\n20 40 21 1000\n",
+        ),
+        (
+            "P9",
+            book(3, &[(5, 1, 6, 600), (6, 1, 5, 400)]),
+            "closed 3 0 4\n5 1 5 400\n5 1 6 600\n6 1 5 400\n6 1 6 400\n",
+        ),
+        (
+            "P10",
+            book(3, &[(20, 4, 12, top), (10, 20, 32_769, top)]),
+            "closed 3 0 3\n10 20 32769 1000\n20 4 12 1000\n32769 2 12 1000\n",
+        ),
+        ("nothing", vec![], "refused 2 0\n"),
+        ("40 bytes of P1", p1()[..40].to_vec(), "refused 1 24\n"),
+        ("too long", vec![0; 65_536], "refused 13 0\n"),
+        ("a head alone", head(1, 2, 0), "closed 2 0 0\n"),
+    ]
+}

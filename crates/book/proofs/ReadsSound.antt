@@ -1,0 +1,163 @@
+-- What a done reading leaves is a sound table of the head's kind and base year; and a refusal's place is within the book. Assumes nothing.
+use mathlib.Core.Path.{_≡_, refl, sym, ap, _∙_}
+use mathlib.Core.Bool.{Bool, true, false, cond, not, _&&_}
+use mathlib.Core.List.{List, [], _∷_, _++_}
+use Prim.Native.Nat.{ℕ, zero, suc, _+_, _≤_, _<_}
+use native.Mathlib.Omega.{arith}
+use lib.ListN.{length}
+use lib.Dec.{eqb, leb, ltb}
+use borrow.Author.Tests.{eqb-true, eqb-false, leb-false, ltb-false, not-false, leb-true, eq-eqb}
+use Rattle.term.specs.Refusal.{Check, refuse, verdict, done, first}
+use Rattle.term.specs.declared.refusal.Verdict.{Verdict}
+use Rattle.term.proofs.Firsts.{Numbered, AllAt, numbered-append, at-append, first-done, first-place, first-split, first-left, first-clear}
+use Rattle.annotation.specs.Kinds.{algebra}
+use Rattle.table.specs.Rows.{Row, Lanes, addRow}
+use Rattle.table.specs.Checks.{isUnfit}
+use Rattle.table.specs.Sound.{LegalRow, Ascending, AllLegal, SoundRows}
+use Rattle.table.proofs.Putting.{sound-add}
+use Rattle.table.proofs.Soundness.{both}
+use Rattle.field.specs.Fields.{isCut, tagAt, sizeAt}
+use Rattle.book.specs.Format.{isBase, headEdition, headKind, headBase, headChecks, fieldChecks, rowIn}
+use Rattle.book.specs.Reading.{Read, refused, readAs, goOn, whenDone, whenMore, stepChecks, fieldsFrom, readBook, lendChecks, reading}
+use Rattle.book.proofs.Contents.{field-numbered, field-at, field-legal}
+
+-- a reading of a book of so many bytes into so much room
+pub record Fine (long room kind base : ℕ) (r : Read) : Type 0 where
+  pub placed : r .verdict-of .place ≤ long
+  pub same-kind : r .verdict-of .number ≡ 0 → r .kind ≡ kind
+  pub same-base : r .verdict-of .number ≡ 0 → r .base ≡ base
+  pub sound : r .verdict-of .number ≡ 0 → SoundRows kind (r .rows)
+  pub fits : r .verdict-of .number ≡ 0 → length (r .rows) ≤ room
+
+module _ (kind base : ℕ) (b : List ℕ) (room : ℕ) where
+  abbrev Good : Read → Type 0
+  Good r = Fine (length b) room kind base r
+
+  read-good : (R : List Row) → SoundRows kind R → length R ≤ room → Good (readAs kind base R)
+  read-good R s h = record { placed = omega arith; same-kind = λ z. refl; same-base = λ z. refl; sound = λ z. s; fits = λ z. h }
+
+  refused-good : (v : Verdict) → v .place ≤ length b → (v .number ≡ 0 → ⊥) → Good (refused v)
+  refused-good v h n = record {
+    placed = h;
+    same-kind = λ z. absurd (n z);
+    same-base = λ z. absurd (n z);
+    sound = λ z. absurd (n z);
+    fits = λ z. absurd (n z);
+  }
+
+  abbrev steps : ℕ → List Row → List Check
+  steps at R = stepChecks kind b room at R
+
+  steps-numbered : (at : ℕ) (R : List Row) → Numbered (steps at R)
+  steps-numbered at R =
+      numbered-append (fieldChecks kind b at) (refuse (ltb room (length (addRow (algebra kind) (rowIn b at) R))) 12 at ∷ []) (field-numbered kind b at) (omega arith, tt)
+
+  steps-at : (at : ℕ) (R : List Row) → AllAt at (steps at R)
+  steps-at at R =
+      at-append at (fieldChecks kind b at) (refuse (ltb room (length (addRow (algebra kind) (rowIn b at) R))) 12 at ∷ []) (field-at kind b at) (refl, tt)
+
+  -- a field that passes adds a legal row for which there is room
+  step-sound : (at : ℕ) (R : List Row) → first (steps at R) .number ≡ 0 → SoundRows kind R
+      → SoundRows kind (addRow (algebra kind) (rowIn b at) R) × (length (addRow (algebra kind) (rowIn b at) R) ≤ room)
+  step-sound at R e s =
+      let f = first-left (fieldChecks kind b at) _ e in
+      let last = refuse (ltb room (length (addRow (algebra kind) (rowIn b at) R))) 12 at ∷ [] in
+      let l : first last .number ≡ 0 = ap (λ (v : Verdict). v .number) (sym (first-clear (fieldChecks kind b at) last (field-numbered kind b at) f)) ∙ e in (
+        sound-add kind (rowIn b at) R (field-legal kind b at (first-done (fieldChecks kind b at) (field-numbered kind b at) f)) s,
+        ltb-false room _ (first-split 12 at (ltb room (length (addRow (algebra kind) (rowIn b at) R))) [] (omega arith) (first-done last (omega arith, tt) l) .0),
+      )
+
+  fields-good : (fuel at : ℕ) (R : List Row) → SoundRows kind R → length R ≤ room → Good (fieldsFrom fuel kind base b room at R)
+  unfolding fieldsFrom
+  fields-good zero at R s h = read-good R s h
+  fields-good (suc fuel) at R s h = more (leb (length b) at) refl (λ e. fields-good fuel (at + 17) _ (step-sound at R e s .0) (step-sound at R e s .1))
+    where
+      stop : at < length b → (t : Bool) → eqb (first (steps at R) .number) 0 ≡ t → (first (steps at R) .number ≡ 0 → Good (fieldsFrom fuel kind base b room (at + 17) (addRow (algebra kind) (rowIn b at) R)))
+          → Good (goOn t (first (steps at R)) (λ _. fieldsFrom fuel kind base b room (at + 17) (addRow (algebra kind) (rowIn b at) R)))
+      stop q true e ih = ih (eqb-true _ 0 e)
+      stop q false e ih =
+          let n = eqb-false (first (steps at R) .number) 0 e in
+          let p : first (steps at R) .place ≡ at = ap (λ (v : Verdict). v .place) (first-place at (steps at R) (steps-at at R) (omega (arith, n))) in
+          refused-good (first (steps at R)) (omega (arith, p)) n
+
+      more : (t : Bool) → leb (length b) at ≡ t → (first (steps at R) .number ≡ 0 → Good (fieldsFrom fuel kind base b room (at + 17) (addRow (algebra kind) (rowIn b at) R)))
+          → Good (whenMore t (readAs kind base R) (λ _. whenDone (first (steps at R)) (λ _. fieldsFrom fuel kind base b room (at + 17) (addRow (algebra kind) (rowIn b at) R))))
+      more true e ih = read-good R s h
+      more false e ih = stop (leb-false (length b) at e) (eqb (first (steps at R) .number) 0) refl ih
+
+-- the head
+pub record LegalHead (kind base : ℕ) : Type 0 where
+  pub kind-from : 1 ≤ kind
+  pub kind-to : kind ≤ 4
+  pub year : isBase kind base ≡ true
+
+pub head-numbered : (b : List ℕ) → Numbered (headChecks b)
+head-numbered b = (omega arith, (omega arith, (omega arith, (omega arith, (omega arith, (omega arith, (omega arith, tt)))))))
+
+pub head-at : (b : List ℕ) → AllAt 0 (headChecks b)
+head-at b = (refl, (refl, (refl, (refl, (refl, (refl, (refl, tt)))))))
+
+pub legal-head : (b : List ℕ) → first (headChecks b) .number ≡ 0 → LegalHead (headKind b) (headBase b)
+legal-head b z =
+    let e = first-done (headChecks b) (head-numbered b) z in
+    let e2 = first-split 2 0 (eqb (length b) 0) _ (omega arith) e in
+    let e1 = first-split 1 0 (isCut b 0) _ (omega arith) (e2 .1) in
+    let t = first-split 2 0 (not (eqb (tagAt b 0) 1)) _ (omega arith) (e1 .1) in
+    let s = first-split 2 0 (not (eqb (sizeAt b 0) 4)) _ (omega arith) (t .1) in
+    let d = first-split 3 0 (not (eqb (headEdition b) 1)) _ (omega arith) (s .1) in
+    let k = first-split 4 0 (not (leb 1 (headKind b) && leb (headKind b) 4)) _ (omega arith) (d .1) in
+    let y = first-split 5 0 (not (isBase (headKind b) (headBase b))) [] (omega arith) (k .1) in
+    let w = both (leb 1 (headKind b)) (leb (headKind b) 4) (not-false _ (k .0)) in
+    record { kind-from = leb-true 1 (headKind b) (w .0); kind-to = leb-true (headKind b) 4 (w .1); year = not-false _ (y .0) }
+
+pub no-rows : (kind : ℕ) → SoundRows kind []
+unfolding Ascending AllLegal
+no-rows kind = record { ascending = tt; legal = tt }
+
+-- what is known of any reading
+pub record Reads (long room : ℕ) (r : Read) : Type 0 where
+  pub placed : r .verdict-of .place ≤ long
+  pub head : r .verdict-of .number ≡ 0 → LegalHead (r .kind) (r .base)
+  pub sound : r .verdict-of .number ≡ 0 → SoundRows (r .kind) (r .rows)
+  pub fits : r .verdict-of .number ≡ 0 → length (r .rows) ≤ room
+
+refused-reads : (long room : ℕ) (v : Verdict) → v .place ≤ long → (v .number ≡ 0 → ⊥) → Reads long room (refused v)
+refused-reads long room v h n = record { placed = h; head = λ z. absurd (n z); sound = λ z. absurd (n z); fits = λ z. absurd (n z) }
+
+module _ (b : List ℕ) (room : ℕ) where
+  fine-reads : (kind base : ℕ) (r : Read) → LegalHead kind base → Fine (length b) room kind base r → Reads (length b) room r
+  fine-reads kind base r l f = record {
+    placed = f .placed;
+    head = λ z. rw (f .same-kind z, f .same-base z) l;
+    sound = λ z. rw (f .same-kind z) (f .sound z);
+    fits = f .fits;
+  }
+
+  book-reads-sound : Reads (length b) room (readBook b room)
+  unfolding readBook
+  book-reads-sound = go (eqb (first (headChecks b) .number) 0) refl
+    where
+      go : (t : Bool) → eqb (first (headChecks b) .number) 0 ≡ t → Reads (length b) room (goOn t (first (headChecks b)) (λ _. fieldsFrom (length b) (headKind b) (headBase b) b room 7 []))
+      go true e =
+          fine-reads (headKind b) (headBase b) (fieldsFrom (length b) (headKind b) (headBase b) b room 7 []) (legal-head b (eqb-true _ 0 e))
+          (fields-good (headKind b) (headBase b) b room (length b) 7 [] (no-rows (headKind b)) (omega arith))
+      go false e =
+          let n = eqb-false (first (headChecks b) .number) 0 e in
+          let p : first (headChecks b) .place ≡ 0 = ap (λ (v : Verdict). v .place) (first-place 0 (headChecks b) (head-at b) (omega (arith, n))) in
+          refused-reads (length b) room (first (headChecks b)) (omega (arith, p)) n
+
+pub reading-sound : (b : List ℕ) (l : Lanes) → Reads 65535 (length (l .subj)) (reading b l)
+reading-sound b l = go (eqb (first (lendChecks b l) .number) 0) refl
+  where
+    go : (t : Bool) → eqb (first (lendChecks b l) .number) 0 ≡ t → Reads 65535 (length (l .subj)) (goOn t (first (lendChecks b l)) (λ _. readBook b (length (l .subj))))
+    go true e =
+        let d = first-done (lendChecks b l) (omega arith, (omega arith, tt)) (eqb-true _ 0 e) in
+        let e11 = first-split 11 0 (isUnfit l) _ (omega arith) d in
+        let e13 = first-split 13 0 (ltb 65535 (length b)) [] (omega arith) (e11 .1) in
+        let short : length b ≤ 65535 = ltb-false 65535 (length b) (e13 .0) in
+        let r = book-reads-sound b (length (l .subj)) in
+        record { placed = omega (arith, r .placed); head = r .head; sound = r .sound; fits = r .fits }
+    go false e =
+        let n = eqb-false (first (lendChecks b l) .number) 0 e in
+        let p : first (lendChecks b l) .place ≡ 0 = ap (λ (v : Verdict). v .place) (first-place 0 (lendChecks b l) (refl, (refl, tt)) (omega (arith, n))) in
+        refused-reads 65535 (length (l .subj)) (first (lendChecks b l)) (omega (arith, p)) n

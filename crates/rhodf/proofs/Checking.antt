@@ -1,0 +1,140 @@
+-- Whether rows are sound, and whether they are closed under the rules, as tests that compute: for tables written out. Assumes nothing.
+use mathlib.Core.Path.{_≡_, refl}
+use mathlib.Core.Bool.{Bool, true, false, _&&_, false≢true}
+use mathlib.Core.List.{List, [], _∷_}
+use Prim.Native.Nat.{ℕ, _<_}
+use native.Mathlib.Omega.{arith}
+use lib.Dec.{eqb, ltb}
+use borrow.Author.Tests.{eqb-true, eq-eqb, ltb-true}
+use Rattle.term.specs.Term.{isLegalTerm, isName}
+use Rattle.annotation.specs.Algebra.{Algebra, AtMost, Laws}
+use Rattle.annotation.specs.Kinds.{isLegal}
+use Rattle.table.specs.Rows.{Triple, Row, key, isTriple, valueAt}
+use Rattle.table.specs.Sound.{LegalRow, Over, Ascending, AllLegal, SoundRows}
+use Rattle.table.proofs.Values.{tripleOf, triple-tells, value-none, value-there}
+use Rattle.rhodf.specs.Graph.{Graph, graphOf, Valued, meetAll}
+use Rattle.rhodf.specs.Rules.{Drawn, Rule}
+use Rattle.rhodf.specs.Closure.{Closed}
+use Rattle.rhodf.proofs.Drawing.{closed-where-held}
+use Rattle.rhodf.proofs.Deciding.{Agree, OfTwo, OfThree, ObeyedByTwo, ObeyedByThree}
+use Rattle.rhodf.proofs.RulesDecided.{rule-2a, rule-2b, rule-3a, rule-3b, rule-4a, rule-4b, rule-5a, rule-5b, closed-by-rules}
+
+-- several tests at once
+abbrev pub allOf : List Bool → Bool
+allOf [] = true
+allOf (b ∷ bs) = b && allOf bs
+
+abbrev AllTrue : List Bool → Type 0
+AllTrue [] = Unit {0}
+AllTrue (b ∷ bs) = (b ≡ true) × AllTrue bs
+
+pub all-true : (bs : List Bool) → allOf bs ≡ true → AllTrue bs
+all-true [] e = tt
+all-true (true ∷ bs) e = (refl, all-true bs e)
+all-true (false ∷ bs) e = absurd (false≢true e)
+
+-- a test at the triple of every row
+abbrev everywhere : (Triple → Bool) → List Row → Bool
+everywhere test [] = true
+everywhere test (x ∷ xs) = allOf (test (tripleOf x) ∷ everywhere test xs ∷ [])
+
+holds-everywhere : (test : Triple → Bool) (rows : List Row) → everywhere test rows ≡ true → (t : Triple) → 0 < valueAt rows t → test t ≡ true
+holds-everywhere test [] e t h = absurd (omega (arith, value-none t))
+holds-everywhere test (x ∷ xs) e t h =
+    let both = all-true (test (tripleOf x) ∷ everywhere test xs ∷ []) e in
+    go (isTriple t x) refl (both .0) (holds-everywhere test xs (both .1 .0) t)
+  where
+    go : (b : Bool) → isTriple t x ≡ b → test (tripleOf x) ≡ true → (0 < valueAt xs t → test t ≡ true) → test t ≡ true
+    go true e here later = rw (← triple-tells t x e) here
+    go false e here later = later (rw (value-there x xs t e) at h)
+
+-- the terms that are to be equal are
+abbrev allEqual : List (ℕ × ℕ) → Bool
+allEqual [] = true
+allEqual (e ∷ es) = eqb (e .0) (e .1) && allEqual es
+
+agree-equal : (es : List (ℕ × ℕ)) → Agree es → allEqual es ≡ true
+agree-equal [] h = refl
+agree-equal (e ∷ es) h = rw (eq-eqb (e .0) (e .1) (h .0)) (agree-equal es (h .1))
+
+-- premises that do not fit, or a conclusion that is not drawn, or one at most its value
+abbrev isObeyed : Algebra → Graph → List (ℕ × ℕ) → List Triple → Triple → Bool
+isObeyed K G es ps t = elim (allEqual es) [
+  | false ↦ true
+  | true ↦ elim (isName (t .p)) [ false ↦ true | true ↦ eqb (K .join (meetAll K G ps) (G t)) (G t) ]
+]
+
+module _ (K : Algebra) (rows : List Row) where
+  abbrev G : Graph
+  G = graphOf rows
+
+  obeyed : (es : List (ℕ × ℕ)) (ps : List Triple) (t : Triple) → isObeyed K G es ps t ≡ true → Agree es → Drawn t → AtMost K (meetAll K G ps) (G t)
+  obeyed es ps t e fit named = eqb-true (K .join (meetAll K G ps) (G t)) (G t) (rw (agree-equal es fit, named, isObeyed) at e)
+
+  abbrev obeysTwo : OfTwo → Bool
+  obeysTwo rule = everywhere (λ x. everywhere (λ y. isObeyed K G (rule .where-equal x y) (x ∷ y ∷ []) (rule .gives x y)) rows) rows
+
+  abbrev obeysThree : OfThree → Bool
+  obeysThree rule =
+      everywhere (λ x. everywhere (λ y. everywhere (λ z. isObeyed K G (rule .where-equal x y z) (x ∷ y ∷ z ∷ []) (rule .gives x y z)) rows) rows) rows
+
+  two-obeyed : (rule : OfTwo) → obeysTwo rule ≡ true → ObeyedByTwo K G rule
+  two-obeyed rule e x hx y hy =
+      obeyed (rule .where-equal x y) (x ∷ y ∷ []) (rule .gives x y)
+      (holds-everywhere _ rows (holds-everywhere _ rows e x hx) y hy)
+
+  three-obeyed : (rule : OfThree) → obeysThree rule ≡ true → ObeyedByThree K G rule
+  three-obeyed rule e x hx y hy z hz =
+      obeyed (rule .where-equal x y z) (x ∷ y ∷ z ∷ []) (rule .gives x y z)
+      (holds-everywhere _ rows (holds-everywhere _ rows (holds-everywhere _ rows e x hx) y hy) z hz)
+
+  abbrev rulesObeyed : List Bool
+  rulesObeyed =
+      obeysTwo rule-2a ∷ obeysTwo rule-2b ∷ obeysTwo rule-3a ∷ obeysTwo rule-3b ∷ obeysTwo rule-4a ∷ obeysTwo rule-4b
+      ∷ obeysThree rule-5a ∷ obeysThree rule-5b ∷ []
+
+  unfoldable pub isClosed : Bool
+  isClosed = allOf rulesObeyed
+
+  pub closed-holds : Laws K → Valued K G → isClosed ≡ true → Closed K Rule G
+  unfolding isClosed
+  closed-holds L v e =
+      let h = all-true rulesObeyed e in
+      closed-where-held K L Rule G v
+      (closed-by-rules K G
+      (two-obeyed rule-2a (h .0))
+      (two-obeyed rule-2b (h .1 .0))
+      (two-obeyed rule-3a (h .1 .1 .0))
+      (two-obeyed rule-3b (h .1 .1 .1 .0))
+      (two-obeyed rule-4a (h .1 .1 .1 .1 .0))
+      (two-obeyed rule-4b (h .1 .1 .1 .1 .1 .0))
+      (three-obeyed rule-5a (h .1 .1 .1 .1 .1 .1 .0))
+      (three-obeyed rule-5b (h .1 .1 .1 .1 .1 .1 .1 .0)))
+
+-- the same of sound rows
+abbrev isOver : ℕ → List Row → Bool
+isOver k [] = true
+isOver k (x ∷ xs) = allOf (ltb k (key x) ∷ isOver k xs ∷ [])
+
+over-holds : (k : ℕ) (rows : List Row) → isOver k rows ≡ true → Over k rows
+unfolding Over
+over-holds k [] e = tt
+over-holds k (x ∷ xs) e = let h = all-true (ltb k (key x) ∷ isOver k xs ∷ []) e in (ltb-true k (key x) (h .0), over-holds k xs (h .1 .0))
+
+module _ (kind : ℕ) where
+  abbrev rowTests : Row → List Bool
+  rowTests x = isLegalTerm (x .s) ∷ isName (x .p) ∷ isLegalTerm (x .o) ∷ isLegal kind (x .a) ∷ []
+
+  unfoldable pub isSound : List Row → Bool
+  isSound [] = true
+  isSound (x ∷ xs) = allOf (isOver (key x) xs ∷ allOf (rowTests x) ∷ isSound xs ∷ [])
+
+  pub sound-holds : (rows : List Row) → isSound rows ≡ true → SoundRows kind rows
+  unfolding isSound Ascending AllLegal
+  sound-holds [] e = record { ascending = tt; legal = tt }
+  sound-holds (x ∷ xs) e =
+      let h = all-true (isOver (key x) xs ∷ allOf (rowTests x) ∷ isSound xs ∷ []) e in
+      let r = all-true (rowTests x) (h .1 .0) in
+      let rest = sound-holds xs (h .1 .1 .0) in
+      let legal : LegalRow kind x = record { subject = r .0; predicate = r .1 .0; object = r .1 .1 .0; annotation = r .1 .1 .1 .0 } in
+      record { ascending = (over-holds (key x) xs (h .0), rest .ascending); legal = (legal, rest .legal) }

@@ -1,0 +1,62 @@
+-- The bench examples P1 to P10 hold for the definitions: the rules that draw the new rows are named, the rest computes. Assumes nothing.
+use mathlib.Core.Path.{refl}
+use mathlib.Core.List.{List, [], _∷_}
+use Rattle.table.specs.Examples.{Every}
+use Rattle.table.proofs.ExamplesHold.{examples-hold as table-examples-hold}
+use Rattle.rhodf.specs.Rules.{r2b, r3a, r3b, r4b, r5a, r5b}
+use Rattle.rhodf.specs.Examples.{P1, P3, P4, P5, P6, P7, P8, P9, P10, RangeBeyondBlank, ThreeClasses, examples}
+use Rattle.rhodf.proofs.DrawnClosure.{Conclusion, by, isClosedBy, closure-by}
+
+p1 : P1
+unfolding isClosedBy
+p1 = closure-by (by (r3b 11 12 10) ∷ []) refl refl
+
+p3 : P3
+unfolding isClosedBy
+p3 = closure-by [] refl refl
+
+p4 : P4
+unfolding isClosedBy
+p4 = (closure-by (by (r3b 11 12 10) ∷ []) refl refl, closure-by (by (r3b 11 12 10) ∷ []) refl refl)
+
+p5 : P5
+unfolding isClosedBy
+p5 = closure-by [] refl refl
+
+p6 : P6
+unfolding isClosedBy
+p6 = closure-by (by (r3b 11 13 10) ∷ by (r3b 12 13 10) ∷ []) refl refl
+
+p7 : P7
+unfolding isClosedBy
+p7 = closure-by (by (r5a 16384 12 20 10 30) ∷ []) refl refl
+
+abbrev p8-drawn : List Conclusion
+p8-drawn = by (r2b 0 40 0 40) ∷ by (r2b 0 40 20 21) ∷ []
+
+p8 : P8
+unfolding isClosedBy
+p8 = (closure-by p8-drawn refl refl, closure-by p8-drawn refl refl, closure-by p8-drawn refl refl, closure-by p8-drawn refl refl)
+
+p9 : P9
+unfolding isClosedBy
+p9 = closure-by (by (r3a 5 6 5) ∷ by (r3a 6 5 6) ∷ []) refl refl
+
+abbrev p10-drawn : List Conclusion
+p10-drawn = by (r4b 20 12 10 32769) ∷ []
+
+p10 : P10
+unfolding isClosedBy
+p10 = (closure-by p10-drawn refl refl, closure-by p10-drawn refl refl, closure-by p10-drawn refl refl, closure-by p10-drawn refl refl)
+
+range-beyond-blank : RangeBeyondBlank
+unfolding isClosedBy
+range-beyond-blank = closure-by (by (r5b 16384 12 20 10 30) ∷ []) refl refl
+
+three-classes : ThreeClasses
+unfolding isClosedBy
+three-classes = closure-by (by (r3a 5 6 7) ∷ []) refl refl
+
+pub examples-hold : Every examples
+examples-hold =
+    (p1, (table-examples-hold .0, (p3, (p4, (p5, (p6, (p7, (p8, (p9, (p10, (range-beyond-blank, (three-classes, tt))))))))))))

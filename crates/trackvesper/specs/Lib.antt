@@ -1,0 +1,2 @@
+-- The definitions that the exported call's contract cites.
+pub mod ClosedBook

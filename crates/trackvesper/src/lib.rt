@@ -1,0 +1,71 @@
+// Trackvesper: fitting books, what follows from them, and the call for the tester's C host.
+// The calls below take anything and refuse by number and place; the README has the table of numbers.
+ghost use mathlib.Core.Path.{_≡_};
+ghost use Prim.Native.Nat.{_<_};
+ghost use Rattle.table.specs.Rows.{lanes};
+ghost use Rattle.trackvesper.specs.ClosedBook.{blank, packed, ClosedBook};
+
+// Tables: the check, and adding a triple.
+pub use table::add;
+pub use table::check;
+// Books: reading into a table, and writing one.
+pub use book::read;
+pub use book::write;
+// What follows from a table.
+pub use closing::close;
+
+// A number and a length or place in one word.
+fn pack(number: u8, rest: usize) -> u64
+    requires { ⌜ rest < 4294967296 ⌝ }
+    ensures { λ r. ⌜ r ≡ packed number rest ⌝ }
+{
+    (number as u64) * 4294967296 + (rest as u64)
+}
+
+// Reads the book into lanes of zeros, closes them, and writes them out.
+fn close_into(
+    book: &[u8],
+    out: &mut [u8],
+    subj: &mut [u16],
+    pred: &mut [u16],
+    obj: &mut [u16],
+    ann: &mut [u64],
+) -> u64
+    requires { ⌜ lanes (now subj) (now pred) (now obj) (now ann) ≡ blank ⌝ }
+    ensures { λ r. ⌜ ClosedBook (now (book .entry)) (now (out .entry)) (now (out .exit)) r ⌝ }
+{
+    let head = read(book, subj, pred, obj, ann);
+    if head.number > 0 {
+        return pack(head.number, head.place);
+    }
+    let closed = close(head.kind, subj, pred, obj, ann, head.count);
+    if closed.number > 0 {
+        return pack(closed.number, closed.place);
+    }
+    let done = write(
+        head.kind,
+        head.base,
+        subj,
+        pred,
+        obj,
+        ann,
+        closed.count,
+        out,
+    );
+    if done.number > 0 {
+        return pack(done.number, done.place);
+    }
+    pack(0, done.length)
+}
+
+// Closes a book: number * 2^32 + the length written, or + the place of a refusal, which leaves the output as it was.
+#[no_mangle]
+pub extern "C" fn trackvesper_close_book(book: &[u8], out: &mut [u8]) -> u64
+    ensures { λ r. ⌜ ClosedBook (now (book .entry)) (now (out .entry)) (now (out .exit)) r ⌝ }
+{
+    let mut subj = [0u16; 1024];
+    let mut pred = [0u16; 1024];
+    let mut obj = [0u16; 1024];
+    let mut ann = [0u64; 1024];
+    close_into(book, out, &mut subj, &mut pred, &mut obj, &mut ann)
+}

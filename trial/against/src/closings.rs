@@ -1,0 +1,76 @@
+//! Closing a table, the exported call, and the closing program as a process.
+
+use crate::{calls, same, Difference};
+use std::io::Write;
+use std::path::Path;
+use std::process::{Command, Stdio};
+use trial::random::{books, closings, Random};
+use trial::table::Lanes;
+use trial::{book, closing, export, programs};
+
+/// A table dealt from the seed, closed; the room is often exactly the closure's, or one row less.
+pub fn close(seed: u64) -> Result<(), Difference> {
+    let mut random = Random::new(seed);
+    let (kind, lanes, count) = closings::any(&mut random);
+    close_one(kind, &lanes, count)
+}
+
+pub fn close_one(kind: u8, lanes: &Lanes, count: usize) -> Result<(), Difference> {
+    let (mut proved_lanes, mut model_lanes) = (lanes.clone(), lanes.clone());
+    let proved = calls::close(kind, &mut proved_lanes, count);
+    let model = closing::close(kind, &mut model_lanes, count);
+    let input = || format!("kind {kind}, count {count}, {lanes:?}");
+    same("close: answer", &proved, &model, input)?;
+    same("close: lanes", &proved_lanes, &model_lanes, input)
+}
+
+/// A book dealt from the seed: now and then any book at all, mostly one whose closure is of interest.
+pub fn book_bytes(random: &mut Random) -> Vec<u8> {
+    if random.chance(4) {
+        return books::any(random);
+    }
+    let kind = trial::random::legal_kind(random);
+    let rows = closings::rows(random, kind);
+    book::bytes_of(kind, books::base(random, kind), &rows)
+}
+
+/// The exported call, into output of about the length it needs.
+pub fn close_book(seed: u64) -> Result<(), Difference> {
+    let mut random = Random::new(seed);
+    let bytes = book_bytes(&mut random);
+    let mut room = vec![0; 17_415];
+    let whole = export::close_book(&bytes, &mut room);
+    let need = (whole & 0xFFFF_FFFF) as usize;
+    let length = random.pick(&[need, need, need.saturating_sub(1), need + 5, 0, 17_415]);
+    let out: Vec<u8> = (0..length).map(|_| random.draw() as u8).collect();
+    let (mut proved_out, mut model_out) = (out.clone(), out);
+    let proved = calls::close_book(&bytes, &mut proved_out);
+    let model = export::close_book(&bytes, &mut model_out);
+    let input = || format!("output of {length} bytes, book {bytes:?}");
+    same("close book: answer", &proved, &model, input)?;
+    same("close book: output", &proved_out, &model_out, input)
+}
+
+/// Runs a program on input and gives back what it wrote.
+pub fn run(program: &Path, input: &[u8]) -> String {
+    let mut child = Command::new(program)
+        .stdin(Stdio::piped())
+        .stdout(Stdio::piped())
+        .spawn()
+        .expect("the program is built by rt");
+    let mut stdin = child.stdin.take().expect("its input is a pipe");
+    // A program that has read enough may end before it has read all.
+    let _ = stdin.write_all(input);
+    drop(stdin);
+    let output = child.wait_with_output().expect("it ends");
+    String::from_utf8_lossy(&output.stdout).into_owned()
+}
+
+/// The closing program as a process.
+pub fn close_book_program(program: &Path, seed: u64) -> Result<(), Difference> {
+    let mut random = Random::new(seed);
+    let bytes = book_bytes(&mut random);
+    let proved = run(program, &bytes);
+    let model = programs::close_book_program(&bytes);
+    same("closing program", &proved, &model, || format!("input {bytes:?}"))
+}
