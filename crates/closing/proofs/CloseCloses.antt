@@ -1,12 +1,12 @@
 -- What a done closing leaves: a sound table that is the closure of the one that came, with zeros behind it; a closed table stays, and closing
 -- twice is closing once. Assumes nothing.
-use mathlib.Core.Path.{_≡_, refl, sym, ap, _∙_}
+use mathlib.Core.Path.{_≡_, sym, ap, _∙_}
 use mathlib.Core.List.{List}
 use Prim.Native.Nat.{ℕ, _≤_, _<_}
 use native.Mathlib.Decide.{decLt}
 use native.Mathlib.Omega.{arith}
 use lib.ListN.{length}
-use Rattle.term.specs.Refusal.{verdict, first}
+use Rattle.term.specs.Refusal.{first}
 use Rattle.term.specs.declared.refusal.Verdict.{Verdict}
 use Rattle.term.proofs.Firsts.{first-done}
 use Rattle.annotation.specs.Kinds.{algebra}

@@ -1,6 +1,7 @@
 -- Laws that belong to no one function, bottom to top.
 pub mod Obeying
 pub mod Stepping
+pub mod Neighbours
 pub mod Walking
 pub mod Rounding
 pub mod Wiping

@@ -5,7 +5,7 @@ use mathlib.Core.List.{List, [], _∷_}
 use Prim.Native.Nat.{ℕ, _<_}
 use native.Mathlib.Omega.{arith}
 use lib.Dec.{eqb}
-use borrow.Author.Tests.{eqb-true, eq-eqb, ne-eqb}
+use borrow.Author.Tests.{eqb-true}
 use Rattle.term.specs.Term.{sp, sc, type, dom, range}
 use Rattle.annotation.specs.Algebra.{Algebra, AtMost, Laws}
 use Rattle.annotation.proofs.Order.{at-most-trans, meet-at-most-left}
@@ -16,7 +16,7 @@ use Rattle.rhodf.specs.Closure.{Closed}
 use Rattle.rhodf.proofs.Graphs.{AllHeld}
 use Rattle.rhodf.proofs.Drawing.{closed-where-held}
 use Rattle.closing.specs.declared.plans.Plan.{Plan}
-use Rattle.closing.specs.Plans.{plain, renaming, through, planOf, gives, Obeyed}
+use Rattle.closing.specs.Plans.{plain, renaming, through, planOf, Obeyed}
 
 -- the And of a rule's premises, from the row that it is driven from
 module _ (K : Algebra) (L : Laws K) (G : Graph) (v : Valued K G) (t u w : Triple) where

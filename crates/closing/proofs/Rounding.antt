@@ -1,29 +1,29 @@
 -- A row's plans are sure, a round that changed nothing leaves a closed table, and rounds come to an end. Assumes nothing.
-use mathlib.Core.Path.{_≡_, refl, sym, ap, _∙_, subst, subst₂}
+use mathlib.Core.Path.{_≡_, refl, sym, _∙_, subst, subst₂}
 use mathlib.Core.Bool.{Bool, true, false, true≢false, false≢true}
-use mathlib.Core.List.{List}
-use Prim.Native.Nat.{ℕ, suc, _+_, _-_, _≤_, _<_}
+use Prim.Native.Nat.{ℕ, _-_, _≤_, _<_}
 use native.Mathlib.Omega.{arith}
 use lib.ListN.{length}
 use Rattle.term.specs.Term.{isLegalTerm}
 use Rattle.annotation.specs.Kinds.{algebra}
 use Rattle.annotation.proofs.KindLaws.{laws}
-use Rattle.table.specs.Rows.{Row, Lanes, Triple, triple, rowAt, rowsOf, total}
+use Rattle.table.specs.Rows.{Lanes, Triple, triple, rowAt, rowsOf, total}
 use Rattle.table.specs.Sound.{Sound}
 use Rattle.table.proofs.Soundness.{sound-list}
 use Rattle.table.proofs.Values.{RowHeld, held-row}
 use Rattle.table.proofs.Totals.{mostTotal, total-bound}
-use Rattle.rhodf.specs.Graph.{Graph, graphOf, Below}
+use Rattle.rhodf.specs.Graph.{graphOf, Below}
 use Rattle.rhodf.specs.Rules.{Rule}
 use Rattle.rhodf.specs.Closure.{Closed}
 use Rattle.rhodf.proofs.Graphs.{below-self, below-trans}
 use Rattle.rhodf.proofs.Growing.{rows-valued}
 use Rattle.closing.specs.declared.plans.Plan.{Plan}
 use Rattle.closing.specs.Plans.{planOf, Obeyed}
-use Rattle.closing.specs.Steps.{Entails, Overflow, Step, Planned, RowObeyed, RowOfTable, RowDrawn, RoundDrawn, Saturated}
+use Rattle.closing.specs.Steps.{Entails, Planned, RowObeyed, RowOfTable, RowDrawn, RoundDrawn, Saturated}
 use Rattle.closing.proofs.Obeying.{each-plan, closed-obeys, obeyed-closed}
 use Rattle.closing.proofs.Stepping.{step-none}
-use Rattle.closing.proofs.Walking.{row-value, row-below, planned-later, Along}
+use Rattle.closing.proofs.Neighbours.{row-value, row-below}
+use Rattle.closing.proofs.Walking.{planned-later, Along}
 
 -- the plans of a row
 abbrev pub rowPlan : ℕ → Lanes → ℕ → Plan

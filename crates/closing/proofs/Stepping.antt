@@ -1,12 +1,11 @@
 -- Steps: none, one conclusion put in, one after the other, and a turn of a loop of steps. Assumes nothing.
 use mathlib.Core.Path.{_≡_, refl, sym, ap, _∙_, subst₂}
-use mathlib.Core.Bool.{Bool, true, false, true≢false, false≢true}
+use mathlib.Core.Bool.{Bool, true, false, false≢true}
 use mathlib.Core.List.{List}
 use mathlib.Core.Logic.{_⊎_, inl, inr, ⊎-elim}
-use Prim.Native.Nat.{ℕ, suc, _+_, _≤_, _<_}
+use Prim.Native.Nat.{ℕ, _+_, _≤_, _<_}
 use native.Mathlib.Omega.{arith}
 use lib.ListN.{length}
-use lib.Dec.{ltb}
 use borrow.Author.Tests.{ltb-true}
 use borrow.Author.Count.{below-more}
 use Rattle.term.specs.Term.{isName}
@@ -16,17 +15,15 @@ use Rattle.annotation.proofs.KindLaws.{laws}
 use Rattle.annotation.proofs.Legal.{value-legal}
 use Rattle.annotation.proofs.Order.{bottom-at-most}
 use Rattle.table.specs.Rows.{Row, Lanes, triple, addRow, rowsOf, valueAt, total}
-use Rattle.table.specs.Sound.{LegalRow, Sound}
-use Rattle.table.specs.Adding.{rowsWith}
+use Rattle.table.specs.Sound.{Sound}
 use Rattle.table.specs.Putting.{PutInto, Put}
 use Rattle.table.proofs.Soundness.{sound-list}
 use Rattle.table.proofs.Putting.{sound-add}
 use Rattle.table.proofs.Values.{tripleOf, legal-small, all-legal-small, value-add-same}
 use Rattle.rhodf.specs.Graph.{Graph, graphOf, Below}
-use Rattle.rhodf.specs.Rules.{Drawn}
 use Rattle.rhodf.proofs.Graphs.{below-self, below-trans}
 use Rattle.rhodf.proofs.Growing.{below-added, added-below}
-use Rattle.closing.specs.Steps.{Above, Entails, Overflow, Step, Either, Concluded, Raised}
+use Rattle.closing.specs.Steps.{Above, Entails, Step, Either, Concluded, Raised}
 
 pub which : (b : Bool) → (b ≡ true) ⊎ (b ≡ false)
 which true = inl refl

@@ -5,10 +5,9 @@ use mathlib.Core.List.{List}
 use Prim.Native.Nat.{ℕ, _≤_, _<_}
 use native.Mathlib.Omega.{arith}
 use lib.ListN.{length}
-use Rattle.term.specs.Refusal.{verdict, done, first}
+use Rattle.term.specs.Refusal.{first}
 use Rattle.term.specs.declared.refusal.Verdict.{Verdict}
 use Rattle.term.proofs.Firsts.{first-done}
-use Rattle.annotation.specs.Kinds.{algebra}
 use Rattle.table.specs.Rows.{Row, Lanes, rowsOf, rowAt, laid, zeroed, filled}
 use Rattle.table.specs.Checks.{tableChecks}
 use Rattle.table.specs.Sound.{Sound}

@@ -1,12 +1,12 @@
 -- Lanes whose part from the count on is zeroed hold the rows before it, and zeros behind them. Assumes nothing.
-use mathlib.Core.Path.{_≡_, refl, sym, ap, _∙_}
+use mathlib.Core.Path.{_≡_, refl, ap, _∙_}
 use mathlib.Core.List.{List, [], _++_, append-nil}
 use Prim.Native.Nat.{ℕ, _+_, _-_, _≤_, _<_}
 use native.Mathlib.Omega.{arith}
 use lib.ListN.{length, getD, take, drop, replicate, length-append, length-take, length-drop, length-replicate, drop-of-length-le, List·getD-append}
 use lib.Seq.{length-take-le, getD-append-add, getD-take}
 use borrow.Rule.Slice.PartMut.{midOf, putMid}
-use Rattle.table.specs.Rows.{Row, Lanes, row, lanes, rowAt, rowsOf, zeroed, filled}
+use Rattle.table.specs.Rows.{Row, lanes, rowAt, rowsOf, filled}
 use Rattle.table.specs.Places.{RowsWithin}
 use Rattle.table.proofs.Tab.{tab-ext, zero-row, filled-is}
 

@@ -103,15 +103,15 @@ pub fn saturate(
 {
     let mut n = count;
     loop {
-        let done = round(kind, subj, pred, obj, ann, n);
-        n = done.count;
-        if done.full {
+        let last = round(kind, subj, pred, obj, ann, n);
+        n = last.count;
+        if last.full {
             return Reached {
                 full: true,
                 count: n,
             };
         }
-        if !done.changed {
+        if !last.changed {
             return Reached {
                 full: false,
                 count: n,

@@ -1,5 +1,5 @@
 -- The invariant: the rules passed are obeyed at the row, if nothing changed.
-use Prim.Native.Nat.{_-_, _≤_}
+use Prim.Native.Nat.{_-_}
 use native.Mathlib.Omega.{arith}
 use mathlib.Core.Bool.{true≢false}
 use Rattle.table.specs.Rows.{lanes}

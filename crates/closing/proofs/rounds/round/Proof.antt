@@ -1,5 +1,5 @@
 -- The invariant: the rows passed obey every rule, if nothing changed.
-use Prim.Native.Nat.{_-_, _<_}
+use Prim.Native.Nat.{_-_}
 use native.Mathlib.Omega.{arith}
 use mathlib.Core.Bool.{true≢false}
 use lib.ListN.{length}
@@ -29,7 +29,7 @@ draw-row-requires : tie.Need-draw-row-requires Inv-loop μ-loop
 draw-row-requires c κs =
     let the-loop = c .before .before .before .before .before .loop in
     let the-loop-test = c .before .before .before .before .loop-test in
-    record { sound = the-loop .inv .step .sound; there = the-loop-test .taken }
+    record { sound = the-loop .inv .step .sound; there = omega (arith, the-loop-test .taken) }
 
 either-requires : tie.Need-either-requires Inv-loop μ-loop
 either-requires c κs = search needs

@@ -1,11 +1,12 @@
 -- The invariant: the rows passed obey the plan, if nothing changed.
-use Prim.Native.Nat.{_-_, _<_}
+use Prim.Native.Nat.{_-_}
 use native.Mathlib.Omega.{arith}
 use lib.ListN.{length}
 use Rattle.table.specs.Rows.{lanes}
 use Rattle.table.proofs.Soundness.{sound-ordered}
 use Rattle.closing.specs.Steps.{PartnerIn}
-use Rattle.closing.proofs.Walking.{Along, within-two, along-start, along-partner, along-turn, along-full, along-end}
+use Rattle.closing.proofs.Neighbours.{within-two}
+use Rattle.closing.proofs.Walking.{Along, along-start, along-partner, along-turn, along-full, along-end}
 use borrow.Author.Needs.{needs}
 use Rattle.closing.proofs.walks.walk.Statement.{statement}
 use Rattle.closing.proofs.walks.walk.Tie as tie

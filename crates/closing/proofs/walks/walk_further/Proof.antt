@@ -1,11 +1,12 @@
 -- The invariant: the rows passed obey the plan, if nothing changed.
-use Prim.Native.Nat.{_-_, _<_}
+use Prim.Native.Nat.{_-_}
 use native.Mathlib.Omega.{arith}
 use lib.ListN.{length}
 use Rattle.table.specs.Rows.{lanes}
 use Rattle.table.proofs.Soundness.{sound-ordered}
 use Rattle.closing.specs.Steps.{FurtherIn}
-use Rattle.closing.proofs.Walking.{Along, within-two, through-start, along-further, along-turn, along-full, through-end}
+use Rattle.closing.proofs.Neighbours.{within-two}
+use Rattle.closing.proofs.Walking.{Along, through-start, along-further, along-turn, along-full, through-end}
 use borrow.Author.Needs.{needs}
 use Rattle.closing.proofs.walks.walk_further.Statement.{statement}
 use Rattle.closing.proofs.walks.walk_further.Tie as tie
