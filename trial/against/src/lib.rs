@@ -39,3 +39,12 @@ pub fn same<T: PartialEq + std::fmt::Debug>(
     }
     Err(format!("{what}\n  proved: {proved:?}\n  model:  {model:?}\n  input:  {}", input()))
 }
+
+/// Runs a kind of case at each seed and stops at the first difference.
+pub fn run(name: &str, case: Case, seeds: std::ops::Range<u64>) {
+    for seed in seeds {
+        if let Err(difference) = case(seed) {
+            panic!("{name}, seed {seed}: {difference}");
+        }
+    }
+}

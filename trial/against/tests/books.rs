@@ -1,18 +1,10 @@
 //! Reading and writing against the model: random books with fixed seeds, cut at every byte and
 //! damaged at every place, and stored books with the answer each must get.
 
-use against::{books, calls, stored};
+use against::{books, calls, run, stored};
 use trial::book;
 use trial::random::{books as deal, tables, Random};
 use trial::table::Lanes;
-
-fn run(name: &str, case: against::Case, seeds: std::ops::Range<u64>) {
-    for seed in seeds {
-        if let Err(difference) = case(seed) {
-            panic!("{name}, seed {seed}: {difference}");
-        }
-    }
-}
 
 #[test]
 fn read_agrees_on_random_books() {

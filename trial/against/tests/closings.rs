@@ -1,18 +1,10 @@
 //! Closing, the exported call and the closing program against the model, and the document's
 //! examples through the program.
 
-use against::{closings, stored};
+use against::{closings, run, stored};
 use std::path::PathBuf;
 use trial::random::Random;
 use trial::table::Lanes;
-
-fn run(name: &str, case: against::Case, seeds: std::ops::Range<u64>) {
-    for seed in seeds {
-        if let Err(difference) = case(seed) {
-            panic!("{name}, seed {seed}: {difference}");
-        }
-    }
-}
 
 fn program() -> PathBuf {
     PathBuf::from(env!("CARGO_MANIFEST_DIR")).join("../../target/bin/close_book")

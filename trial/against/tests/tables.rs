@@ -1,17 +1,9 @@
 //! The table check and adding against the model: random tables with fixed seeds, every lane
 //! length, and the stored cases.
 
-use against::{stored, tables};
+use against::{run, stored, tables};
 use trial::random::{self, tables as deal, Random};
 use trial::table::Lanes;
-
-fn run(name: &str, case: against::Case, seeds: std::ops::Range<u64>) {
-    for seed in seeds {
-        if let Err(difference) = case(seed) {
-            panic!("{name}, seed {seed}: {difference}");
-        }
-    }
-}
 
 #[test]
 fn check_agrees_on_random_tables() {
