@@ -1,0 +1,9 @@
+-- The definitions that the contracts of `question`, and of what runs questions, cite.
+pub mod Part
+pub mod Format
+pub mod Bound
+pub mod Outside
+pub mod Steps
+pub mod Records
+pub mod Compiling
+pub mod Inner
