@@ -8,4 +8,5 @@ pub mod Slotted
 pub mod Faithful
 pub mod Made
 pub mod Lanewise
+pub mod Outcomes
 pub mod CompilingDetermined
