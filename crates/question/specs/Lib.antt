@@ -4,6 +4,7 @@ pub mod Format
 pub mod Bound
 pub mod Outside
 pub mod Steps
+pub mod Legal
 pub mod Records
 pub mod Compiling
 pub mod Inner
