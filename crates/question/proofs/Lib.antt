@@ -1,4 +1,6 @@
 -- Laws that belong to no one function.
+pub mod Masks
+pub mod SurelyBound
 pub mod Refusing
 pub mod Lanes
 pub mod Laws
