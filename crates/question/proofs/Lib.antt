@@ -18,6 +18,8 @@ pub mod Masks
 pub mod SurelyBound
 pub mod Faulty
 pub mod Limits
+pub mod LowestPlace
+pub mod AfterReading
 pub mod ReadsBack
 pub mod Asked
 pub mod CompilingDetermined
