@@ -1,0 +1,217 @@
+//! What a line is made of: its words one by one, terms, when it holds; and the lines of a book.
+
+use crate::annotation::Kind;
+use crate::names::{Names, Sort, FIVE_WORDS};
+use crate::words::{Placed, Word};
+use crate::Fault;
+
+/// Words that are never names.
+const RESERVED: [&str; 11] =
+    ["kind", "ask", "and", "or", "where", "during", "always", "covers", "=", "!=", ">="];
+
+/// The document's words for the five, which a text does not use.
+const DOCUMENT_WORDS: [&str; 5] = ["sp", "sc", "type", "dom", "range"];
+
+/// Words that a list of years ends at.
+const LIST_ENDS: [&str; 3] = ["and", "or", "where"];
+
+/// A term of a triple, or a variable in its place.
+#[derive(Clone, Debug, PartialEq, Eq)]
+pub enum Slot {
+    Constant(u16),
+    Variable(String),
+}
+
+/// When a triple holds: an annotation, or a variable in its place.
+#[derive(Clone, Debug, PartialEq, Eq)]
+pub enum When {
+    Constant(u64),
+    Variable(String),
+}
+
+/// The words of a statement, read from the left.
+pub struct Cursor<'a> {
+    words: &'a [Placed],
+    at: usize,
+}
+
+impl<'a> Cursor<'a> {
+    pub fn new(words: &'a [Placed]) -> Cursor<'a> {
+        Cursor { words, at: 0 }
+    }
+
+    /// The word `ahead` of the next one.
+    pub fn peek(&self, ahead: usize) -> Option<&'a Word> {
+        self.words.get(self.at + ahead).map(|placed| &placed.word)
+    }
+
+    pub fn next(&mut self) -> Option<&'a Word> {
+        let word = self.peek(0)?;
+        self.at += 1;
+        Some(word)
+    }
+
+    /// The line of the next word, or of the last one.
+    pub fn line(&self) -> usize {
+        let placed = self.words.get(self.at).or(self.words.last());
+        placed.map_or(0, |placed| placed.line)
+    }
+
+    pub fn fault(&self, words: impl Into<String>) -> Fault {
+        Fault::new(self.line(), words)
+    }
+
+    /// Passes over this word if it is the next; its line.
+    pub fn take(&mut self, plain: &str) -> Option<usize> {
+        let line = self.line();
+        self.peek(0).filter(|word| word.is(plain))?;
+        self.at += 1;
+        Some(line)
+    }
+}
+
+/// A term, or a variable; `what` it is to be, for messages.
+pub fn term(cursor: &mut Cursor, names: &mut Names, what: &str) -> Result<Slot, Fault> {
+    let line = cursor.line();
+    let number = match cursor.next() {
+        None => Err(format!("the {what} is missing")),
+        Some(Word::Variable(name)) => return Ok(Slot::Variable(name.clone())),
+        Some(Word::Plain(text)) => {
+            judge_name(text, what).and_then(|()| names.term(Sort::Name, text))
+        }
+        Some(Word::Blank(text)) => names.term(Sort::Blank, text),
+        Some(Word::Literal(text)) => names.term(Sort::Literal, text),
+        Some(word) => Err(format!("{} stands where the {what} should be", word.shown())),
+    };
+    number.map(Slot::Constant).map_err(|words| Fault::new(line, words))
+}
+
+fn judge_name(text: &str, what: &str) -> Result<(), String> {
+    if RESERVED.contains(&text) {
+        return Err(format!("`{text}` stands where the {what} should be"));
+    }
+    if let Some(at) = DOCUMENT_WORDS.iter().position(|word| *word == text) {
+        return Err(format!("`{text}` is written `{}` here", FIVE_WORDS[at]));
+    }
+    let small = text.to_lowercase();
+    let known = FIVE_WORDS.contains(&&*small) || RESERVED.contains(&&*small);
+    if known && small != text {
+        return Err(format!("`{text}` is written in small letters: `{small}`"));
+    }
+    if text.chars().all(|letter| letter.is_ascii_digit() || "-–—.".contains(letter)) {
+        let otherwise = format!("a thing that is called by a number is put in quotes: \"{text}\"");
+        return Err(format!("`{text}` stands where the {what} should be; {otherwise}"));
+    }
+    Ok(())
+}
+
+/// When it holds, if that is said: `always`, a variable, or a list; `during` may stand before it.
+pub fn when(cursor: &mut Cursor, kind: Kind) -> Result<Option<When>, Fault> {
+    let during = cursor.take("during").is_some();
+    if cursor.take("always").is_some() {
+        return Ok(Some(When::Constant(kind.top())));
+    }
+    if let Some(Word::Variable(name)) = cursor.peek(0) {
+        cursor.next();
+        return Ok(Some(When::Variable(name.clone())));
+    }
+    let line = cursor.line();
+    let items = list(cursor)?;
+    if items.is_empty() {
+        let missing = format!("behind `during` stand {}, a ?variable or `always`", kind.example());
+        return if during { Err(cursor.fault(missing)) } else { Ok(None) };
+    }
+    let value = kind.value(&items).map_err(|words| Fault::new(line, words))?;
+    Ok(Some(When::Constant(value)))
+}
+
+/// The words up to the end of a list; a comma stands between two of them or not.
+fn list<'a>(cursor: &mut Cursor<'a>) -> Result<Vec<&'a str>, Fault> {
+    let mut items = Vec::new();
+    while let Some(item) = list_item(cursor, 0) {
+        items.push(item);
+        cursor.next();
+        if cursor.peek(0) == Some(&Word::Comma) {
+            if list_item(cursor, 1).is_none() {
+                return Err(cursor.fault("something is missing behind the `,`"));
+            }
+            cursor.next();
+        }
+    }
+    Ok(items)
+}
+
+fn list_item<'a>(cursor: &Cursor<'a>, ahead: usize) -> Option<&'a str> {
+    match cursor.peek(ahead)? {
+        Word::Plain(text) if !LIST_ENDS.contains(&text.as_str()) => Some(text),
+        _ => None,
+    }
+}
+
+/// A line of the book: subject, relation, object, and when it holds (nothing: always).
+pub fn row(cursor: &mut Cursor, names: &mut Names, kind: Kind) -> Result<([u16; 3], u64), Fault> {
+    let mut triple = [0; 3];
+    for (term, what) in triple.iter_mut().zip(["subject", "relation", "object"]) {
+        *term = row_term(cursor, names, what)?;
+    }
+    let value = match when(cursor, kind)? {
+        None => kind.top(),
+        Some(When::Constant(value)) => value,
+        Some(When::Variable(name)) => return Err(no_variable(cursor, &name)),
+    };
+    nothing_left(cursor)?;
+    Ok((triple, value))
+}
+
+fn row_term(cursor: &mut Cursor, names: &mut Names, what: &str) -> Result<u16, Fault> {
+    let shape = "a line of the book is: SUBJECT RELATION OBJECT, and when it holds";
+    match term(cursor, names, what) {
+        Ok(Slot::Constant(term)) => Ok(term),
+        Ok(Slot::Variable(name)) => Err(no_variable(cursor, &name)),
+        Err(fault) => Err(Fault::new(fault.line, format!("{} ({shape})", fault.words))),
+    }
+}
+
+fn no_variable(cursor: &Cursor, name: &str) -> Fault {
+    cursor
+        .fault(format!("`?{name}` is a variable; only a question has them, and begins with `ask`"))
+}
+
+fn nothing_left(cursor: &Cursor) -> Result<(), Fault> {
+    match cursor.peek(0) {
+        None => Ok(()),
+        Some(word) if LIST_ENDS.iter().any(|end| word.is(end)) => {
+            let where_it_belongs = "belongs in questions; between years stands a comma";
+            Err(cursor.fault(format!("{} {where_it_belongs}", word.shown())))
+        }
+        Some(word) => Err(cursor.fault(format!("{} is too much in this line", word.shown()))),
+    }
+}
+
+/// The line that says the book's kind. Whether the first year is allowed is for the program to say.
+pub fn kind(cursor: &mut Cursor) -> Result<Kind, Fault> {
+    let line = cursor.line();
+    cursor.next();
+    let kinds = "the kinds are: years from 2000, sheets, degree, strict";
+    let kind = match cursor.next() {
+        Some(word) if word.is("years") => Kind::Years { base: first_year(cursor)? },
+        Some(word) if word.is("sheets") => Kind::Sheets,
+        Some(word) if word.is("degree") => Kind::Degree,
+        Some(word) if word.is("strict") => Kind::Strict,
+        Some(word) => {
+            return Err(Fault::new(line, format!("no kind is {}; {kinds}", word.shown())))
+        }
+        None => return Err(Fault::new(line, format!("the kind is missing; {kinds}"))),
+    };
+    nothing_left(cursor)?;
+    Ok(kind)
+}
+
+fn first_year(cursor: &mut Cursor) -> Result<u16, Fault> {
+    let fault = cursor.fault("the first year is missing or no year: kind years from 2000");
+    cursor.take("from").ok_or_else(|| fault.clone())?;
+    match cursor.next() {
+        Some(Word::Plain(year)) => year.parse().map_err(|_| fault),
+        _ => Err(fault),
+    }
+}
