@@ -12,6 +12,9 @@ pub enum Kind {
 /// Years or sheets in one annotation.
 const BITS: u32 = 64;
 
+/// For a word that looks like the second half of a name.
+const NAME_HINT: &str = " (a name is one word: rear-light)";
+
 impl Kind {
     pub fn number(self) -> u8 {
         match self {
@@ -86,7 +89,7 @@ impl Kind {
     fn degree(self, item: &str) -> Result<u64, String> {
         let whole = "degrees are whole numbers from 1 to 1000";
         let example = if item.contains('.') { " (700, not 0.7)" } else { "" };
-        item.parse().map_err(|_| format!("`{item}` is not a degree: {whole}{example}"))
+        whole_number(item).ok_or_else(|| format!("`{item}` is not a degree: {whole}{example}"))
     }
 
     /// The bits of one run, `2000-2002` or `2005`.
@@ -105,8 +108,9 @@ impl Kind {
         let first = u32::from(self.base());
         let last = first + BITS - 1;
         let one = self.one();
-        let Ok(number) = number.parse::<u32>() else {
-            return Err(format!("`{item}` is not a {one}: here stand {}", self.example()));
+        let Some(number) = whole_number::<u32>(number) else {
+            let name = if item.starts_with(char::is_alphabetic) { NAME_HINT } else { "" };
+            return Err(format!("`{item}` is not a {one}: here stand {}{name}", self.example()));
         };
         if !(first..=last).contains(&number) {
             return Err(format!("{one} {number} is outside this book's {one}s, {first} to {last}"));
@@ -128,6 +132,12 @@ impl Kind {
     }
 }
 
+/// Digits and nothing else.
+fn whole_number<N: std::str::FromStr>(text: &str) -> Option<N> {
+    let digits = text.bytes().all(|letter| letter.is_ascii_digit());
+    text.parse().ok().filter(|_| digits)
+}
+
 fn written_run(first: u32, (from, to): (u32, u32)) -> String {
     if from == to {
         format!("{}", first + from)
@@ -142,4 +152,57 @@ pub fn runs(value: u64) -> Vec<(u32, u32)> {
     let begins = |bit: &u32| has(*bit) && (*bit == 0 || !has(*bit - 1));
     let end = |bit: u32| (bit..BITS).take_while(|next| has(*next)).last().unwrap_or(bit);
     (0..BITS).filter(begins).map(|bit| (bit, end(bit))).collect()
+}
+
+#[cfg(test)]
+mod tests {
+    use super::*;
+
+    const YEARS: Kind = Kind::Years { base: 2000 };
+
+    #[test]
+    fn two_runs_stay_two() {
+        let value = YEARS.value(&["2000-2002", "2005-2007"]).unwrap();
+        assert_eq!(value, 0b1110_0111);
+        assert_eq!(runs(value), [(0, 2), (5, 7)]);
+        assert_eq!(YEARS.written(value), "2000-2002, 2005-2007");
+    }
+
+    #[test]
+    fn runs_at_both_ends_and_single_years() {
+        assert_eq!(YEARS.value(&["2063"]), Ok(1 << 63));
+        assert_eq!(YEARS.written(1 << 63 | 1), "2000, 2063");
+        assert_eq!(YEARS.written(0b11), "2000-2001");
+        assert_eq!(YEARS.value(&["2000-2063"]), Ok(YEARS.top()));
+        assert_eq!(YEARS.written(YEARS.top()), "always");
+        assert_eq!(YEARS.written(YEARS.top() >> 1), "2000-2062");
+        assert_eq!(Kind::Sheets.written(0b1101), "0, 2-3");
+    }
+
+    /// What is written is read back to the same value, whatever its bits.
+    #[test]
+    fn written_values_read_back() {
+        let mut value: u64 = 1;
+        for _ in 0..10_000 {
+            value = value
+                .wrapping_mul(6_364_136_223_846_793_005)
+                .wrapping_add(1_442_695_040_888_963_407);
+            let sparse = (value & value.rotate_left(21)) | 1;
+            for kind in [YEARS, Kind::Sheets] {
+                let written = kind.written(sparse);
+                let items: Vec<&str> = written.split(", ").collect();
+                assert_eq!(kind.value(&items), Ok(sparse), "{written}");
+            }
+        }
+    }
+
+    #[test]
+    fn degrees_are_whole_numbers() {
+        assert_eq!(Kind::Degree.value(&["700"]), Ok(700));
+        assert_eq!(Kind::Strict.value(&["1001"]), Ok(1001), "the program says so");
+        for wrong in ["0.7", "+7", "-7", "70%", "99999999999999999999"] {
+            assert!(Kind::Degree.value(&[wrong]).is_err(), "{wrong}");
+        }
+        assert!(Kind::Degree.value(&["7", "8"]).is_err());
+    }
 }

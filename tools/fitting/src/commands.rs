@@ -6,6 +6,7 @@ use crate::programs::{self, Closed, Refusal};
 use crate::refusal::Refused;
 use crate::show;
 use crate::text::{self, Text};
+use crate::Fault;
 use std::path::Path;
 
 #[derive(Clone, Copy, Debug, PartialEq, Eq)]
@@ -35,16 +36,25 @@ pub fn execute(
     bytes: &[u8],
     folder: &Path,
 ) -> Result<Outcome, String> {
-    let text = text::read(bytes).map_err(|faults| {
-        let lines = faults.iter().map(|fault| format!("{file}:{}: {}\n", fault.line, fault.words));
-        lines.collect::<String>()
-    })?;
+    let text = text::read(bytes).map_err(|faults| written_faults(file, &faults))?;
     match command {
         Command::Close => close(file, &text, folder),
         Command::Ask => ask(file, &text, folder),
         Command::Book => Ok(Outcome::done(text.book.bytes)),
         Command::Questions => Ok(Outcome::done(counter_input(file, &text)?)),
     }
+}
+
+/// Faults shown at once.
+const MOST_FAULTS: usize = 20;
+
+fn written_faults(file: &str, faults: &[Fault]) -> String {
+    let lines = faults.iter().map(|fault| format!("{file}:{}: {}\n", fault.line, fault.words));
+    let mut written: String = lines.take(MOST_FAULTS).collect();
+    if faults.len() > MOST_FAULTS {
+        written += &format!("{file}: and {} more\n", faults.len() - MOST_FAULTS);
+    }
+    written
 }
 
 fn close(file: &str, text: &Text, folder: &Path) -> Result<Outcome, String> {

@@ -56,11 +56,8 @@ fn finish(outcome: Result<Outcome, String>) -> ExitCode {
 }
 
 fn call(arguments: &[String]) -> Result<Call, String> {
-    let (folder, rest) = match arguments {
-        [flag, folder, rest @ ..] if flag == "--bin" => (PathBuf::from(folder), rest),
-        rest => (std::env::var_os("FITTING_BIN").map_or_else(default_folder, PathBuf::from), rest),
-    };
-    let [command, file] = rest else {
+    let (folder, rest) = folder_and_rest(arguments)?;
+    let [command, file] = &rest[..] else {
         return Err(USAGE.to_string());
     };
     let command = match command.as_str() {
@@ -71,4 +68,14 @@ fn call(arguments: &[String]) -> Result<Call, String> {
         other => return Err(format!("fitting: there is no command {other}\n\n{USAGE}")),
     };
     Ok(Call { command, file: file.clone(), folder })
+}
+
+/// The folder of the programs, and the arguments but `--bin FOLDER`.
+fn folder_and_rest(arguments: &[String]) -> Result<(PathBuf, Vec<String>), String> {
+    let Some(at) = arguments.iter().position(|argument| argument == "--bin") else {
+        let named = std::env::var_os("FITTING_BIN");
+        return Ok((named.map_or_else(default_folder, PathBuf::from), arguments.to_vec()));
+    };
+    let folder = arguments.get(at + 1).ok_or(USAGE)?;
+    Ok((folder.into(), [&arguments[..at], &arguments[at + 2..]].concat()))
 }

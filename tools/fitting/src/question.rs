@@ -1,14 +1,14 @@
 //! A question's words into the bytes of its parts.
 //!
-//!     group   = either, then `where` and tests with `and` between them
-//!     either  = boths with `or` between them
-//!     both    = triples or groups in parentheses, with `and` between them
-//!     test    = TERM = TERM, TERM != TERM, ?VARIABLE covers YEARS
+//! - group: an either, then `where` and tests with `and` between them
+//! - either: boths with `or` between them
+//! - both: triples, or groups in parentheses, with `and` between them
+//! - test: TERM = TERM, TERM != TERM, ?VARIABLE covers YEARS
 
 use crate::annotation::Kind;
 use crate::fields::{Fields, LONGEST};
 use crate::names::Names;
-use crate::statement::{term, when, Cursor, Slot, When};
+use crate::statement::{term, when, Cursor, Role, Slot, When, ORDER, ROLES};
 use crate::words::{Placed, Word};
 use crate::Fault;
 
@@ -47,18 +47,15 @@ pub struct Variables {
 impl Variables {
     fn term(&mut self, name: &str) -> Result<u16, String> {
         if self.anns.iter().any(|other| other == name) {
-            return Err(format!(
-                "`?{name}` says when something holds, and cannot stand for a name"
-            ));
+            let test = "(it is tested by `covers`)";
+            return Err(format!("`?{name}` says when, and cannot stand for a name {test}"));
         }
         Ok(number_of(&mut self.terms, name))
     }
 
     fn ann(&mut self, name: &str) -> Result<u16, String> {
         if self.terms.iter().any(|other| other == name) {
-            return Err(format!(
-                "`?{name}` stands for a name, and cannot say when something holds"
-            ));
+            return Err(format!("`?{name}` stands for a name, and cannot say when"));
         }
         Ok(number_of(&mut self.anns, name))
     }
@@ -77,7 +74,7 @@ fn number_of(names: &mut Vec<String>, name: &str) -> u16 {
 pub fn question(words: &[Placed], names: &mut Names, kind: Kind) -> Result<Question, Fault> {
     let mut cursor = Cursor::new(words);
     let first_line = cursor.line();
-    cursor.next();
+    cursor.word();
     let variables = Variables::default();
     let mut asker = Asker { cursor, names, kind, variables, constants: vec![], open: vec![] };
     let fields = asker.group()?;
@@ -153,7 +150,7 @@ impl Asker<'_> {
             return Err(self.cursor.fault("too many parentheses in one another"));
         }
         self.open.push(self.cursor.line());
-        self.cursor.next();
+        self.cursor.word();
         let part = self.group()?;
         self.closing()?;
         self.open.pop();
@@ -164,7 +161,7 @@ impl Asker<'_> {
         let opened = self.open.last().copied().unwrap_or(0);
         match self.cursor.peek(0) {
             Some(Word::Close) => {
-                self.cursor.next();
+                self.cursor.word();
                 Ok(())
             }
             Some(word) => Err(self.not_expected(word)),
@@ -175,8 +172,8 @@ impl Asker<'_> {
     fn triple(&mut self) -> Result<Fields, Fault> {
         let line = self.cursor.line();
         let mut value = Vec::new();
-        for what in ["subject", "relation", "object"] {
-            value.extend(self.slot(what)?);
+        for role in ROLES {
+            value.extend(self.slot(role)?);
         }
         let (mark, number) = match when(&mut self.cursor, self.kind)? {
             None => return Err(self.not_said_when(line)),
@@ -189,14 +186,14 @@ impl Asker<'_> {
     }
 
     fn not_said_when(&self, line: usize) -> Fault {
-        let example = self.kind.example();
-        Fault::new(line, format!("say when: a variable such as ?when, {example}, or `always`"))
+        let when = format!("a variable such as ?when, {}, or `always`", self.kind.example());
+        Fault::new(line, format!("say when ({when}): {ORDER}"))
     }
 
     /// A term slot: mark and number.
-    fn slot(&mut self, what: &str) -> Result<Vec<u8>, Fault> {
+    fn slot(&mut self, role: Role) -> Result<Vec<u8>, Fault> {
         let line = self.cursor.line();
-        let slot = term(&mut self.cursor, self.names, what)?;
+        let slot = term(&mut self.cursor, self.names, role)?;
         let (mark, number) = match slot {
             Slot::Constant(term) => {
                 self.constants.push(term);
@@ -229,18 +226,18 @@ impl Asker<'_> {
             return Err(Fault::new(line, tests));
         };
         let mut value = vec![mark];
-        value.extend(self.slot("left side")?);
-        self.cursor.next();
-        value.extend(self.slot("right side")?);
+        value.extend(self.slot(Role::Side)?);
+        self.cursor.word();
+        value.extend(self.slot(Role::Side)?);
         Ok(Fields::one(TEST, &value, line))
     }
 
     fn at_least(&mut self, line: usize) -> Result<Fields, Fault> {
-        let Some(Word::Variable(name)) = self.cursor.next() else {
+        let Some(Word::Variable(name)) = self.cursor.word() else {
             return Err(Fault::new(line, "a ?variable stands before `covers`"));
         };
         let variable = self.ann(name)?;
-        self.cursor.next();
+        self.cursor.word();
         let Some(When::Constant(least)) = when(&mut self.cursor, self.kind)? else {
             let example = self.kind.example();
             return Err(Fault::new(line, format!("behind `covers` stand {example}")));

@@ -69,8 +69,10 @@ pub fn answers(
     for line in text.between(question.first_line, question.last_line) {
         shown += &format!("{line}\n");
     }
-    for stranger in strangers(text, question) {
-        shown += &format!("    Note: {stranger} stands nowhere in the book.\n");
+    if asked.refusal.number == 0 {
+        for stranger in strangers(text, question) {
+            shown += &format!("    Note: {stranger} stands nowhere in the book.\n");
+        }
     }
     let lines: Option<Vec<Vec<String>>> =
         asked.answers.iter().map(|answer| answer_words(text, kind, question, answer)).collect();

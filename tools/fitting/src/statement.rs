@@ -15,6 +15,43 @@ const DOCUMENT_WORDS: [&str; 5] = ["sp", "sc", "type", "dom", "range"];
 /// Words that a list of years ends at.
 const LIST_ENDS: [&str; 3] = ["and", "or", "where"];
 
+/// What a term is to be.
+#[derive(Clone, Copy, Debug, PartialEq, Eq)]
+pub enum Role {
+    Subject,
+    Relation,
+    Object,
+    /// A side of `=` or `!=`.
+    Side,
+}
+
+/// The terms of a triple, in their order.
+pub const ROLES: [Role; 3] = [Role::Subject, Role::Relation, Role::Object];
+
+/// The order in which a triple is written.
+pub const ORDER: &str = "SUBJECT RELATION OBJECT WHEN";
+
+impl Role {
+    fn missing(self) -> String {
+        match self {
+            Role::Subject => format!("the subject is missing: {ORDER}"),
+            Role::Relation => format!("the relation is missing: {ORDER}"),
+            Role::Object => format!("the object is missing: {ORDER}"),
+            Role::Side => "there is nothing to compare with".to_string(),
+        }
+    }
+
+    /// Something else stands in its place.
+    fn misplaced(self, found: &str) -> String {
+        match self {
+            Role::Subject => format!("{found} stands where the subject should be: {ORDER}"),
+            Role::Relation => format!("{found} stands where the relation should be: {ORDER}"),
+            Role::Object => format!("{found} stands where the object should be: {ORDER}"),
+            Role::Side => format!("{found} is not a name to compare with"),
+        }
+    }
+}
+
 /// A term of a triple, or a variable in its place.
 #[derive(Clone, Debug, PartialEq, Eq)]
 pub enum Slot {
@@ -45,7 +82,7 @@ impl<'a> Cursor<'a> {
         self.words.get(self.at + ahead).map(|placed| &placed.word)
     }
 
-    pub fn next(&mut self) -> Option<&'a Word> {
+    pub fn word(&mut self) -> Option<&'a Word> {
         let word = self.peek(0)?;
         self.at += 1;
         Some(word)
@@ -70,25 +107,25 @@ impl<'a> Cursor<'a> {
     }
 }
 
-/// A term, or a variable; `what` it is to be, for messages.
-pub fn term(cursor: &mut Cursor, names: &mut Names, what: &str) -> Result<Slot, Fault> {
+/// A term, or a variable.
+pub fn term(cursor: &mut Cursor, names: &mut Names, role: Role) -> Result<Slot, Fault> {
     let line = cursor.line();
-    let number = match cursor.next() {
-        None => Err(format!("the {what} is missing")),
+    let number = match cursor.word() {
+        None => Err(role.missing()),
         Some(Word::Variable(name)) => return Ok(Slot::Variable(name.clone())),
         Some(Word::Plain(text)) => {
-            judge_name(text, what).and_then(|()| names.term(Sort::Name, text))
+            judge_name(text, role).and_then(|()| names.term(Sort::Name, text))
         }
         Some(Word::Blank(text)) => names.term(Sort::Blank, text),
         Some(Word::Literal(text)) => names.term(Sort::Literal, text),
-        Some(word) => Err(format!("{} stands where the {what} should be", word.shown())),
+        Some(word) => Err(role.misplaced(&word.shown())),
     };
     number.map(Slot::Constant).map_err(|words| Fault::new(line, words))
 }
 
-fn judge_name(text: &str, what: &str) -> Result<(), String> {
+fn judge_name(text: &str, role: Role) -> Result<(), String> {
     if RESERVED.contains(&text) {
-        return Err(format!("`{text}` stands where the {what} should be"));
+        return Err(role.misplaced(&format!("`{text}`")));
     }
     if let Some(at) = DOCUMENT_WORDS.iter().position(|word| *word == text) {
         return Err(format!("`{text}` is written `{}` here", FIVE_WORDS[at]));
@@ -99,8 +136,8 @@ fn judge_name(text: &str, what: &str) -> Result<(), String> {
         return Err(format!("`{text}` is written in small letters: `{small}`"));
     }
     if text.chars().all(|letter| letter.is_ascii_digit() || "-–—.".contains(letter)) {
-        let otherwise = format!("a thing that is called by a number is put in quotes: \"{text}\"");
-        return Err(format!("`{text}` stands where the {what} should be; {otherwise}"));
+        let misplaced = role.misplaced(&format!("`{text}`"));
+        return Err(format!("{misplaced} (a name that is a number is put in quotes: \"{text}\")"));
     }
     Ok(())
 }
@@ -112,7 +149,7 @@ pub fn when(cursor: &mut Cursor, kind: Kind) -> Result<Option<When>, Fault> {
         return Ok(Some(When::Constant(kind.top())));
     }
     if let Some(Word::Variable(name)) = cursor.peek(0) {
-        cursor.next();
+        cursor.word();
         return Ok(Some(When::Variable(name.clone())));
     }
     let line = cursor.line();
@@ -130,12 +167,12 @@ fn list<'a>(cursor: &mut Cursor<'a>) -> Result<Vec<&'a str>, Fault> {
     let mut items = Vec::new();
     while let Some(item) = list_item(cursor, 0) {
         items.push(item);
-        cursor.next();
+        cursor.word();
         if cursor.peek(0) == Some(&Word::Comma) {
             if list_item(cursor, 1).is_none() {
                 return Err(cursor.fault("something is missing behind the `,`"));
             }
-            cursor.next();
+            cursor.word();
         }
     }
     Ok(items)
@@ -151,8 +188,11 @@ fn list_item<'a>(cursor: &Cursor<'a>, ahead: usize) -> Option<&'a str> {
 /// A line of the book: subject, relation, object, and when it holds (nothing: always).
 pub fn row(cursor: &mut Cursor, names: &mut Names, kind: Kind) -> Result<([u16; 3], u64), Fault> {
     let mut triple = [0; 3];
-    for (term, what) in triple.iter_mut().zip(["subject", "relation", "object"]) {
-        *term = row_term(cursor, names, what)?;
+    for (number, role) in triple.iter_mut().zip(ROLES) {
+        *number = match term(cursor, names, role)? {
+            Slot::Constant(number) => number,
+            Slot::Variable(name) => return Err(no_variable(cursor, &name)),
+        };
     }
     let value = match when(cursor, kind)? {
         None => kind.top(),
@@ -161,15 +201,6 @@ pub fn row(cursor: &mut Cursor, names: &mut Names, kind: Kind) -> Result<([u16; 
     };
     nothing_left(cursor)?;
     Ok((triple, value))
-}
-
-fn row_term(cursor: &mut Cursor, names: &mut Names, what: &str) -> Result<u16, Fault> {
-    let shape = "a line of the book is: SUBJECT RELATION OBJECT, and when it holds";
-    match term(cursor, names, what) {
-        Ok(Slot::Constant(term)) => Ok(term),
-        Ok(Slot::Variable(name)) => Err(no_variable(cursor, &name)),
-        Err(fault) => Err(Fault::new(fault.line, format!("{} ({shape})", fault.words))),
-    }
 }
 
 fn no_variable(cursor: &Cursor, name: &str) -> Fault {
@@ -191,9 +222,9 @@ fn nothing_left(cursor: &Cursor) -> Result<(), Fault> {
 /// The line that says the book's kind. Whether the first year is allowed is for the program to say.
 pub fn kind(cursor: &mut Cursor) -> Result<Kind, Fault> {
     let line = cursor.line();
-    cursor.next();
+    cursor.word();
     let kinds = "the kinds are: years from 2000, sheets, degree, strict";
-    let kind = match cursor.next() {
+    let kind = match cursor.word() {
         Some(word) if word.is("years") => Kind::Years { base: first_year(cursor)? },
         Some(word) if word.is("sheets") => Kind::Sheets,
         Some(word) if word.is("degree") => Kind::Degree,
@@ -210,7 +241,7 @@ pub fn kind(cursor: &mut Cursor) -> Result<Kind, Fault> {
 fn first_year(cursor: &mut Cursor) -> Result<u16, Fault> {
     let fault = cursor.fault("the first year is missing or no year: kind years from 2000");
     cursor.take("from").ok_or_else(|| fault.clone())?;
-    match cursor.next() {
+    match cursor.word() {
         Some(Word::Plain(year)) => year.parse().map_err(|_| fault),
         _ => Err(fault),
     }

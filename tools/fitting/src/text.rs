@@ -119,10 +119,8 @@ fn statements(lines: &[String]) -> (Vec<Statement>, Vec<Fault>) {
             Err(words) => faults.push(Fault::new(line, words)),
             Ok(words) if words.is_empty() => {}
             Ok(words) => {
-                let mut statement = match statements.pop_if(|last| last.goes_on(&words[0])) {
-                    Some(last) => last,
-                    None => Statement::default(),
-                };
+                let mut statement =
+                    statements.pop_if(|last| last.goes_on(&words[0])).unwrap_or_default();
                 statement.add(words, line);
                 statements.push(statement);
             }

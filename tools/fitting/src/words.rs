@@ -43,6 +43,9 @@ impl Word {
 
 /// The words of a line, up to a comment.
 pub fn words(line: &str) -> Result<Vec<Word>, String> {
+    if line.contains(|letter: char| letter.is_control() && letter != '\t') {
+        return Err("there is a character here that cannot be printed".to_string());
+    }
     let mut found = Vec::new();
     let mut rest = line.trim_start();
     while let Some(first) = rest.chars().next() {
@@ -98,9 +101,6 @@ fn judge_letters(text: &str) -> Result<(), String> {
     }
     if text.contains('"') {
         return Err(format!("{text}: a quote stands at the beginning of a word only"));
-    }
-    if text.contains(char::is_control) {
-        return Err("there is a character here that cannot be printed".to_string());
     }
     Ok(())
 }
