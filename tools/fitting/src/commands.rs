@@ -58,7 +58,7 @@ fn written_faults(file: &str, faults: &[Fault]) -> String {
 }
 
 fn close(file: &str, text: &Text, folder: &Path) -> Result<Outcome, String> {
-    match programs::close(folder, &text.book.bytes).map_err(ended)? {
+    match programs::close(folder, &text.book.bytes).map_err(of_program)? {
         Closed::Refused(refusal) => Err(book_refusal(file, text, refusal)),
         Closed::Rows(rows) => {
             let listing = show::listing(text, kind_of(text)?, &rows);
@@ -78,7 +78,7 @@ fn ask(file: &str, text: &Text, folder: &Path) -> Result<Outcome, String> {
         // Too long to be handed to the counter; the closing program says why.
         return close(file, text, folder);
     }
-    let counted = programs::count(folder, &counter_input(file, text)?).map_err(ended)?;
+    let counted = programs::count(folder, &counter_input(file, text)?).map_err(of_program)?;
     if let Some(refusal) = counted.refused {
         return Err(book_refusal(file, text, refusal));
     }
@@ -114,6 +114,6 @@ fn strange_term() -> String {
     "a program gave back a term that is not in the text\n".to_string()
 }
 
-fn ended(why: String) -> String {
+fn of_program(why: String) -> String {
     format!("fitting: {why}\n")
 }

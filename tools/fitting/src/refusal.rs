@@ -43,14 +43,16 @@ pub fn words(number: u32) -> &'static str {
     }
 }
 
-/// Whether the document gives this number a place in what was refused.
-pub fn has_place(refused: Refused, refusal: Refusal) -> bool {
+/// The document's word for the place of a number, if it gives it one in what was refused.
+pub fn place_word(refused: Refused, refusal: Refusal) -> Option<&'static str> {
     match (refused, refusal.number) {
         // Reading's 12 is at its field, which is never the head; closing's has no place.
-        (Refused::Book, 12) => refusal.place > 0,
-        (Refused::Book, 1..=10) => true,
-        (Refused::Question, 8..=10 | 16..=22) => true,
-        _ => false,
+        (Refused::Book, 12) if refusal.place > 0 => Some("field"),
+        (Refused::Book, 1..=10) => Some("field"),
+        (Refused::Question, 8..=10 | 17..=20) => Some("field"),
+        (Refused::Question, 16) => Some("field or holder"),
+        (Refused::Question, 21 | 22) => Some("ONLY field"),
+        _ => None,
     }
 }
 
@@ -66,7 +68,7 @@ pub fn advice(refused: Refused, refusal: Refusal) -> Option<&'static str> {
         (Refused::Book, 13) => "That is 3,854 lines; the same line written twice counts twice.",
         (Refused::Question, 12) => "More answers than 256; these are the first 256.",
         (_, 19) => "A question has at most 16 variables for names and 8 that say when.",
-        (_, 20) => "Each line of the form SUBJECT RELATION OBJECT, `and`, `or` and test is a part; there are at most 32.",
+        (_, 20) => "Each SUBJECT RELATION OBJECT WHEN, each `and`, each `or` and each test is a part; there are at most 32.",
         (_, 21) => "A variable of the test stands nowhere before its `where`, or on one side of an `or` only.",
         (_, 22) => "A variable tested by `covers` stands also outside the parentheses that the test is in.",
         (_, 24) => "The question takes too long; these are the answers before that point.",

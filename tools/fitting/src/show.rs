@@ -3,7 +3,7 @@
 use crate::annotation::Kind;
 use crate::programs::{Answer, Asked, Refusal, Row};
 use crate::question::Question;
-use crate::refusal::{advice, has_place, words, Refused};
+use crate::refusal::{advice, place_word, words, Refused};
 use crate::text::Text;
 use std::collections::HashSet;
 
@@ -83,7 +83,11 @@ pub fn answers(
         let line = question.fields.line_at(asked.refusal.place).unwrap_or(question.first_line);
         shown += &refusal(file, Some(line), text, Refused::Question, asked.refusal);
     }
-    Some(shown + &format!("    {}\n", totals(asked)))
+    // A question refused before its work has no answers to count.
+    if place_word(Refused::Question, asked.refusal).is_none() {
+        shown += &format!("    {}\n", totals(asked));
+    }
+    Some(shown)
 }
 
 fn totals(asked: &Asked) -> String {
@@ -137,19 +141,17 @@ pub fn refusal(
     refused: Refused,
     refusal: Refusal,
 ) -> String {
-    let line = line.filter(|_| has_place(refused, refusal));
-    let number = refusal.number;
-    let mut shown = match line {
-        Some(line) => format!(
-            "{file}:{line}: refused {number} at byte {}: {}\n",
-            refusal.place,
-            words(number)
-        ),
-        None => format!("{file}: refused {number}: {}\n", words(number)),
+    let Refusal { number, place } = refusal;
+    let words = words(number);
+    let mut shown = match (line, place_word(refused, refusal)) {
+        (Some(line), Some(field)) => {
+            let written = text.between(line, line).concat();
+            let about =
+                format!("{file}:{line}: refused {number}, {field} at byte {place}: {words}");
+            format!("{about}\n    {}\n", written.trim_start())
+        }
+        _ => format!("{file}: refused {number}: {words}\n"),
     };
-    for written in line.map_or(&[][..], |line| text.between(line, line)) {
-        shown += &format!("    {}\n", written.trim_start());
-    }
     if let Some(advice) = advice(refused, refusal) {
         shown += &format!("    {advice}\n");
     }

@@ -29,27 +29,31 @@ fn number_2() {
     let head = "refused 2: no head first (empty book included), length not 4, second head\n";
     assert!(!done && closed.starts_with(&format!("t.fit: {head}")), "{closed}");
     let second = "kind years from 2000\nlamp is led 2000\n\nkind sheets\nlamp is led 3\n";
-    book(second, "t.fit:4: refused 2 at byte 24: no head first");
+    book(second, "t.fit:4: refused 2, field at byte 24: no head first");
 }
 
 #[test]
 fn number_5() {
     let advice = "    kind years from 1899\n    The first year of a book is from 1900 to 2100.\n";
-    book("kind years from 1899\n", &format!("t.fit:1: refused 5 at byte 0: base year\n{advice}"));
-    book("kind years from 2101\n", "t.fit:1: refused 5 at byte 0: base year");
+    book(
+        "kind years from 1899\n",
+        &format!("t.fit:1: refused 5, field at byte 0: base year\n{advice}"),
+    );
+    book("kind years from 2101\n", "t.fit:1: refused 5, field at byte 0: base year");
 }
 
 #[test]
 fn numbers_9_and_10() {
-    let nine = "t.fit:3: refused 9 at byte 24: predicate not a name\n    lamp \"is\" led 2000\n";
+    let nine =
+        "t.fit:3: refused 9, field at byte 24: predicate not a name\n    lamp \"is\" led 2000\n";
     book(&years("lamp is led 2000\nlamp \"is\" led 2000\n"), nine);
-    book(&years("lamp _is led 2000\n"), "t.fit:2: refused 9 at byte 7");
-    let ten = "t.fit:2: refused 10 at byte 7: annotation illegal\n    lamp is led 1001\n";
+    book(&years("lamp _is led 2000\n"), "t.fit:2: refused 9, field at byte 7");
+    let ten = "t.fit:2: refused 10, field at byte 7: annotation illegal\n    lamp is led 1001\n";
     book("kind degree\nlamp is led 1001\n", &format!("{ten}    Degrees are from 1 to 1000.\n"));
-    book("kind strict\nlamp is led 0\n", "t.fit:2: refused 10 at byte 7");
-    let nine = "t.fit:4: refused 9 at byte 24: predicate not a name";
+    book("kind strict\nlamp is led 0\n", "t.fit:2: refused 10, field at byte 7");
+    let nine = "t.fit:4: refused 9, field at byte 24: predicate not a name";
     question("sheets", "ask ?x is led ?w\nand ?x \"is\" led ?w", &[nine, "and ?x \"is\" led ?w"]);
-    let ten = "t.fit:3: refused 10 at byte 0: annotation illegal";
+    let ten = "t.fit:3: refused 10, field at byte 0: annotation illegal";
     question("degree", "ask ?x is led 0", &[ten, "ask ?x is led 0"]);
 }
 
@@ -57,7 +61,7 @@ fn numbers_9_and_10() {
 #[test]
 fn number_12_of_a_book() {
     let rows: String = (0..1025).map(|number| format!("n{number} near led 2000\n")).collect();
-    let line = "t.fit:1026: refused 12 at byte 17415: no room\n    n1024 near led 2000\n";
+    let line = "t.fit:1026: refused 12, field at byte 17415: no room\n    n1024 near led 2000\n";
     book(&years(&rows), line);
     let fits: String = (0..1024).map(|number| format!("n{number} near led 2000\n")).collect();
     assert!(close(&years(&fits)).1);
@@ -85,17 +89,17 @@ fn number_13() {
 #[test]
 fn number_19() {
     let terms = (0..9).map(|number| format!("?x{number} near ?y{number} ?w")).collect::<Vec<_>>();
-    let nineteen = "t.fit:3: refused 19 at byte 192: variable number too large";
+    let nineteen = "t.fit:3: refused 19, field at byte 192: variable number too large";
     question("sheets", &format!("ask {}", terms.join(" and ")), &[nineteen]);
     let anns = (0..9).map(|number| format!("?x is led ?w{number}")).collect::<Vec<_>>();
-    let nineteen = "t.fit:11: refused 19 at byte 192: variable number too large";
+    let nineteen = "t.fit:11: refused 19, field at byte 192: variable number too large";
     question("sheets", &format!("ask {}", anns.join("\nand ")), &[nineteen, "and ?x is led ?w8"]);
 }
 
 #[test]
 fn number_20() {
     let parts = |triples: usize| format!("ask {}", vec!["?x is led ?w"; triples].join("\nand "));
-    let twenty = "t.fit:19: refused 20 at byte 384: a 33rd part";
+    let twenty = "t.fit:19: refused 20, field at byte 384: a 33rd part";
     question("sheets", &parts(17), &[twenty, "and ?x is led ?w"]);
     let (_, done) = ask(&format!("kind sheets\nlamp is led 1\n{} where ?x = lamp\n", parts(16)));
     assert!(done, "32 parts");
@@ -104,11 +108,11 @@ fn number_20() {
 #[test]
 fn numbers_21_and_22() {
     let words = "test names a variable not surely bound by its own part";
-    let place = format!("t.fit:4: refused 21 at byte 0: {words}");
+    let place = format!("t.fit:4: refused 21, ONLY field at byte 0: {words}");
     question("sheets", "ask ?x is led ?w\nwhere ?y = lamp", &[&place, "where ?y = lamp"]);
     question("sheets", "ask ?x is led ?w or ?y is led ?w\nwhere ?v covers 3", &[&place]);
     let words = "test's annotation variable also stands in a TRIPLE outside that part";
-    let place = format!("t.fit:4: refused 22 at byte 24: {words}");
+    let place = format!("t.fit:4: refused 22, ONLY field at byte 24: {words}");
     let outside = "ask ?x is led ?w and\n(?x is led ?w where ?w covers 3)";
     question("sheets", outside, &[&place, "(?x is led ?w where ?w covers 3)"]);
 }
