@@ -3,7 +3,7 @@
 use crate::annotation::Kind;
 use crate::fields::LONGEST;
 use crate::programs::{self, Closed, Refusal};
-use crate::refusal::Refused;
+use crate::refusal::{place_word, Refused};
 use crate::show;
 use crate::text::{self, Text};
 use crate::Fault;
@@ -103,7 +103,9 @@ fn counter_input(file: &str, text: &Text) -> Result<Vec<u8>, String> {
 }
 
 fn book_refusal(file: &str, text: &Text, refusal: Refusal) -> String {
-    show::refusal(file, text.book.line_at(refusal.place), text, Refused::Book, refusal)
+    let place = place_word(Refused::Book, refusal).map(|_| refusal.place);
+    let line = place.and_then(|place| text.book.line_at(place));
+    show::refusal(file, line, text, Refused::Book, refusal)
 }
 
 fn kind_of(text: &Text) -> Result<Kind, String> {

@@ -8,7 +8,7 @@
 use crate::annotation::Kind;
 use crate::fields::{Fields, LONGEST};
 use crate::names::Names;
-use crate::statement::{term, when, Cursor, Role, Slot, When, ORDER, ROLES};
+use crate::statement::{term, when, Cursor, Role, Slot, When, COMPARES, ORDER, ROLES};
 use crate::words::{Placed, Word};
 use crate::Fault;
 
@@ -108,12 +108,10 @@ impl Asker<'_> {
 
     /// Passes over a `where`, or over an `and` with a test behind it; its line.
     fn another_test(&mut self) -> Option<usize> {
-        let compares = ["=", "!=", "covers", ">="];
-        let behind = self.cursor.peek(2)?;
-        let test_follows = compares.iter().any(|word| behind.is(word));
-        self.cursor
-            .take("where")
-            .or_else(|| if test_follows { self.cursor.take("and") } else { None })
+        let compares =
+            self.cursor.peek(2).is_some_and(|word| COMPARES.iter().any(|one| word.is(one)));
+        let and = if compares { self.cursor.take("and") } else { None };
+        and.or_else(|| self.cursor.take("where"))
     }
 
     fn either(&mut self) -> Result<Fields, Fault> {

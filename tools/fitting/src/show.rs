@@ -80,8 +80,8 @@ pub fn answers(
         shown += &format!("    {line}\n");
     }
     if asked.refusal.number != 0 {
-        let line = question.fields.line_at(asked.refusal.place).unwrap_or(question.first_line);
-        shown += &refusal(file, Some(line), text, Refused::Question, asked.refusal);
+        let line = question.fields.line_at(asked.refusal.place);
+        shown += &refusal(file, line, text, Refused::Question, asked.refusal);
     }
     // A question refused before its work has no answers to count.
     if place_word(Refused::Question, asked.refusal).is_none() {
@@ -142,16 +142,16 @@ pub fn refusal(
     refusal: Refusal,
 ) -> String {
     let Refusal { number, place } = refusal;
-    let words = words(number);
-    let mut shown = match (line, place_word(refused, refusal)) {
-        (Some(line), Some(field)) => {
-            let written = text.between(line, line).concat();
-            let about =
-                format!("{file}:{line}: refused {number}, {field} at byte {place}: {words}");
-            format!("{about}\n    {}\n", written.trim_start())
-        }
-        _ => format!("{file}: refused {number}: {words}\n"),
-    };
+    let mut shown = line.map_or(file.to_string(), |line| format!("{file}:{line}"));
+    shown += &format!(": refused {number}");
+    let field = place_word(refused, refusal);
+    if let Some(field) = field {
+        shown += &format!(", {field} at byte {place}");
+    }
+    shown += &format!(": {}\n", words(number));
+    if let (Some(_), Some(line)) = (field, line) {
+        shown += &format!("    {}\n", text.between(line, line).concat().trim_start());
+    }
     if let Some(advice) = advice(refused, refusal) {
         shown += &format!("    {advice}\n");
     }

@@ -5,9 +5,11 @@ use crate::names::{Names, Sort, FIVE_WORDS};
 use crate::words::{Placed, Word};
 use crate::Fault;
 
-/// Words that are never names.
-const RESERVED: [&str; 11] =
-    ["kind", "ask", "and", "or", "where", "during", "always", "covers", "=", "!=", ">="];
+/// Words that are never names, with those of `COMPARES`.
+const RESERVED: [&str; 7] = ["kind", "ask", "and", "or", "where", "during", "always"];
+
+/// The words of tests.
+pub const COMPARES: [&str; 4] = ["=", "!=", "covers", ">="];
 
 /// The document's words for the five, which a text does not use.
 const DOCUMENT_WORDS: [&str; 5] = ["sp", "sc", "type", "dom", "range"];
@@ -126,6 +128,9 @@ pub fn term(cursor: &mut Cursor, names: &mut Names, role: Role) -> Result<Slot, 
 fn judge_name(text: &str, role: Role) -> Result<(), String> {
     if RESERVED.contains(&text) {
         return Err(role.misplaced(&format!("`{text}`")));
+    }
+    if COMPARES.contains(&text) {
+        return Err(format!("`{text}` belongs in the tests of a question, behind `where`"));
     }
     if let Some(at) = DOCUMENT_WORDS.iter().position(|word| *word == text) {
         return Err(format!("`{text}` is written `{}` here", FIVE_WORDS[at]));

@@ -54,6 +54,15 @@ fn lines_of(listing: &str) -> Vec<Vec<&str>> {
     lines
 }
 
+/// A row that holds for more years than the book's own lines say is marked too.
+#[test]
+fn a_row_in_the_book_for_less_is_marked() {
+    let text =
+        years("lamp is led 2000\nlamp is led 2002\nlamp is tail 2005\ntail within led always\n");
+    let row = "lamp  is      led   2000, 2002, 2005  # in the book for less\n";
+    assert!(close(&text).0.contains(row), "{}", close(&text).0);
+}
+
 /// The bytes of a small text, field by field.
 #[test]
 fn bytes_are_those_of_the_document() {

@@ -85,6 +85,11 @@ fn wrong_questions() {
     second_line("ask ?x is led ?w where ?x=?y", "?x=?y: a variable's name has");
     second_line("ask ?x is ?w ?w", "`?w` stands for a name, and cannot say when");
     second_line("ask ?x is led ?w where ?x = a or ?x is b ?w", "`or` stands behind a test");
+    second_line(
+        "ask ?x is led ?w and ?x != lamp",
+        "`!=` belongs in the tests of a question, behind `where`",
+    );
+    second_line("ask ?x is led ?w where ?x = lamp where", "a test is");
     second_line("ask ? is led ?w", "a variable needs a name");
     second_line(&format!("ask {}", "(".repeat(100_000)), "too many parentheses in one another");
     let long = vec!["?x is led ?w"; 4_000].join(" and ");

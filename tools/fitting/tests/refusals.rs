@@ -26,7 +26,7 @@ fn question(kind: &str, question: &str, lines: &[&str]) {
 #[test]
 fn number_2() {
     let (closed, done) = close("# nothing\n");
-    let head = "refused 2: no head first (empty book included), length not 4, second head\n";
+    let head = "refused 2, field at byte 0: no head first (empty book included), length not 4, second head\n";
     assert!(!done && closed.starts_with(&format!("t.fit: {head}")), "{closed}");
     let second = "kind years from 2000\nlamp is led 2000\n\nkind sheets\nlamp is led 3\n";
     book(second, "t.fit:4: refused 2, field at byte 24: no head first");
@@ -76,7 +76,8 @@ fn number_12_of_a_question() {
     let rows: String = (0..257).map(|number| format!("n{number} is led 2000\n")).collect();
     let (asked, done) = ask(&years(&format!("{rows}ask ?x is led ?w\n")));
     assert_eq!(asked.lines().filter(|line| line.contains("?x = ")).count(), 256);
-    let last = "t.fit: refused 12: no room\n    More answers than 256; these are the first 256.\n";
+    let last =
+        "t.fit:259: refused 12: no room\n    More answers than 256; these are the first 256.\n";
     assert!(!done && asked.ends_with(&format!("{last}    256 answers, 257 looks\n")), "{asked}");
 }
 
