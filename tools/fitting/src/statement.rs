@@ -200,12 +200,18 @@ pub fn row(cursor: &mut Cursor, names: &mut Names, kind: Kind) -> Result<([u16; 
         };
     }
     let value = match when(cursor, kind)? {
-        None => kind.top(),
+        None => return Err(no_when(cursor, kind)),
         Some(When::Constant(value)) => value,
         Some(When::Variable(name)) => return Err(no_variable(cursor, &name)),
     };
     nothing_left(cursor)?;
     Ok((triple, value))
+}
+
+/// A year that was forgotten must not become every year.
+fn no_when(cursor: &Cursor, kind: Kind) -> Fault {
+    let missing = cursor.fault(format!("say when: {}, or `always`", kind.example()));
+    nothing_left(cursor).err().unwrap_or(missing)
 }
 
 fn no_variable(cursor: &Cursor, name: &str) -> Fault {

@@ -34,6 +34,7 @@ fn wrong_years() {
         "`and` belongs in questions; between years stands a comma",
     );
     second_line("lamp is led always 2005", "`2005` is too much in this line");
+    second_line("lamp is led", "say when: years such as 2000-2002, 2005, or `always`");
     second_line("lamp is led during", "behind `during` stand years");
 }
 
