@@ -1,5 +1,5 @@
 # `make run` proves the closing program and runs it on a sample book; `make test` is the gate.
-.PHONY: run test host bench soak
+.PHONY: run test host fitting bench soak
 
 run:
 	rt check close_book
@@ -13,6 +13,10 @@ host:
 	test -f target/staticlib/libtrackvesper.a || rt staticlib trackvesper
 	mkdir -p target/host
 	cc -std=c11 -Wall -Wextra -Werror -O2 -o target/host/close_book examples/close_book.c target/staticlib/libtrackvesper.a
+
+# The text form for people: target/fitting/release/fitting (tools/fitting/README.md).
+fitting:
+	cd tools/fitting && CARGO_TARGET_DIR=../../target/fitting cargo build --release --offline --quiet
 
 # The proved library against the model for MINUTES, from seed SEED on.
 MINUTES ?= 10

@@ -1,0 +1,78 @@
+//! The numbers given back: the document's words for each, and what it means for a text.
+
+use crate::programs::Refusal;
+
+/// What was refused.
+#[derive(Clone, Copy, Debug, PartialEq, Eq)]
+pub enum Refused {
+    /// The book, in reading or closing.
+    Book,
+    Question,
+}
+
+/// The document's words for a number.
+pub fn words(number: u32) -> &'static str {
+    match number {
+        0 => "done",
+        1 => "book ends inside a field",
+        2 => "no head first (empty book included), length not 4, second head",
+        3 => "edition",
+        4 => "kind",
+        5 => "base year",
+        6 => "tag neither 1 nor 3 after the head",
+        7 => "length not 14",
+        8 => "sort 3",
+        9 => "predicate not a name",
+        10 => "annotation illegal",
+        11 => "lanes unequal or too long; answer lanes unfit; under 48 records lent",
+        12 => "no room",
+        13 => "book over 65,535 bytes",
+        14 => "count over lane length",
+        15 => "row not above the one before",
+        16 => "question field doesn't fit its holder; a part or test missing; bytes left over in a holder",
+        17 => "tag not allowed there",
+        18 => "wrong length, slot mark or test mark",
+        19 => "variable number too large",
+        20 => "a 33rd part",
+        21 => "test names a variable not surely bound by its own part",
+        22 => "test's annotation variable also stands in a TRIPLE outside that part",
+        23 => "step count 0, over 48 or over the records lent; else the first step illegal for the kind, or the last not GIVE",
+        24 => "looks used up: a look is due and none is left",
+        25 => "more than 48 steps",
+        _ => "a number that the document does not have",
+    }
+}
+
+/// The document's word for the place of a number, if it gives it one in what was refused.
+pub fn place_word(refused: Refused, refusal: Refusal) -> Option<&'static str> {
+    match (refused, refusal.number) {
+        // Reading's 12 is at its field, which is never the head; closing's has no place.
+        (Refused::Book, 12) if refusal.place > 0 => Some("field"),
+        (Refused::Book, 1..=10) => Some("field"),
+        (Refused::Question, 8..=10 | 17..=20) => Some("field"),
+        (Refused::Question, 16) => Some("field or holder"),
+        (Refused::Question, 21 | 22) => Some("ONLY field"),
+        _ => None,
+    }
+}
+
+/// What a refusal means for someone who wrote a text.
+pub fn advice(refused: Refused, refusal: Refusal) -> Option<&'static str> {
+    let advice = match (refused, refusal.number) {
+        (Refused::Book, 2) => "A text has one line that says the kind, and it comes first: kind years from 2000",
+        (Refused::Book, 5) => "The first year of a book is from 1900 to 2100.",
+        (_, 9) => "The relation is a name, not a quoted text or a blank.",
+        (_, 10) => "Degrees are from 1 to 1000.",
+        (Refused::Book, 12) if refusal.place > 0 => "There is room for 1,024 rows, and this line would be one more.",
+        (Refused::Book, 12) => "There is room for 1,024 rows, and more than that follow from this book.",
+        (Refused::Book, 13) => "That is 3,854 lines; the same line written twice counts twice.",
+        (Refused::Question, 12) => "More answers than 256; these are the first 256.",
+        (_, 19) => "A question has at most 16 variables for names and 8 that say when.",
+        (_, 20) => "Each SUBJECT RELATION OBJECT WHEN, each `and`, each `or` and each test is a part; there are at most 32.",
+        (_, 21) => "A variable of the test stands nowhere before its `where`, or on one side of an `or` only.",
+        (_, 22) => "A variable tested by `covers` stands also outside the parentheses that the test is in.",
+        (_, 24) => "The question takes too long; these are the answers before that point.",
+        _ => return None,
+    };
+    Some(advice)
+}

@@ -1,0 +1,259 @@
+//! What a line is made of: its words one by one, terms, when it holds; and the lines of a book.
+
+use crate::annotation::Kind;
+use crate::names::{Names, Sort, FIVE_WORDS};
+use crate::words::{Placed, Word};
+use crate::Fault;
+
+/// Words that are never names, with those of `COMPARES`.
+const RESERVED: [&str; 7] = ["kind", "ask", "and", "or", "where", "during", "always"];
+
+/// The words of tests.
+pub const COMPARES: [&str; 4] = ["=", "!=", "covers", ">="];
+
+/// The document's words for the five, which a text does not use.
+const DOCUMENT_WORDS: [&str; 5] = ["sp", "sc", "type", "dom", "range"];
+
+/// Words that a list of years ends at.
+const LIST_ENDS: [&str; 3] = ["and", "or", "where"];
+
+/// What a term is to be.
+#[derive(Clone, Copy, Debug, PartialEq, Eq)]
+pub enum Role {
+    Subject,
+    Relation,
+    Object,
+    /// A side of `=` or `!=`.
+    Side,
+}
+
+/// The terms of a triple, in their order.
+pub const ROLES: [Role; 3] = [Role::Subject, Role::Relation, Role::Object];
+
+/// The order in which a triple is written.
+pub const ORDER: &str = "SUBJECT RELATION OBJECT WHEN";
+
+impl Role {
+    fn missing(self) -> String {
+        match self {
+            Role::Subject => format!("the subject is missing: {ORDER}"),
+            Role::Relation => format!("the relation is missing: {ORDER}"),
+            Role::Object => format!("the object is missing: {ORDER}"),
+            Role::Side => "there is nothing to compare with".to_string(),
+        }
+    }
+
+    /// Something else stands in its place.
+    fn misplaced(self, found: &str) -> String {
+        match self {
+            Role::Subject => format!("{found} stands where the subject should be: {ORDER}"),
+            Role::Relation => format!("{found} stands where the relation should be: {ORDER}"),
+            Role::Object => format!("{found} stands where the object should be: {ORDER}"),
+            Role::Side => format!("{found} is not a name to compare with"),
+        }
+    }
+}
+
+/// A term of a triple, or a variable in its place.
+#[derive(Clone, Debug, PartialEq, Eq)]
+pub enum Slot {
+    Constant(u16),
+    Variable(String),
+}
+
+/// When a triple holds: an annotation, or a variable in its place.
+#[derive(Clone, Debug, PartialEq, Eq)]
+pub enum When {
+    Constant(u64),
+    Variable(String),
+}
+
+/// The words of a statement, read from the left.
+pub struct Cursor<'a> {
+    words: &'a [Placed],
+    at: usize,
+}
+
+impl<'a> Cursor<'a> {
+    pub fn new(words: &'a [Placed]) -> Cursor<'a> {
+        Cursor { words, at: 0 }
+    }
+
+    /// The word `ahead` of the next one.
+    pub fn peek(&self, ahead: usize) -> Option<&'a Word> {
+        self.words.get(self.at + ahead).map(|placed| &placed.word)
+    }
+
+    pub fn word(&mut self) -> Option<&'a Word> {
+        let word = self.peek(0)?;
+        self.at += 1;
+        Some(word)
+    }
+
+    /// The line of the next word, or of the last one.
+    pub fn line(&self) -> usize {
+        let placed = self.words.get(self.at).or(self.words.last());
+        placed.map_or(0, |placed| placed.line)
+    }
+
+    pub fn fault(&self, words: impl Into<String>) -> Fault {
+        Fault::new(self.line(), words)
+    }
+
+    /// Passes over this word if it is the next; its line.
+    pub fn take(&mut self, plain: &str) -> Option<usize> {
+        let line = self.line();
+        self.peek(0).filter(|word| word.is(plain))?;
+        self.at += 1;
+        Some(line)
+    }
+}
+
+/// A term, or a variable.
+pub fn term(cursor: &mut Cursor, names: &mut Names, role: Role) -> Result<Slot, Fault> {
+    let line = cursor.line();
+    let number = match cursor.word() {
+        None => Err(role.missing()),
+        Some(Word::Variable(name)) => return Ok(Slot::Variable(name.clone())),
+        Some(Word::Plain(text)) => {
+            judge_name(text, role).and_then(|()| names.term(Sort::Name, text))
+        }
+        Some(Word::Blank(text)) => names.term(Sort::Blank, text),
+        Some(Word::Literal(text)) => names.term(Sort::Literal, text),
+        Some(word) => Err(role.misplaced(&word.shown())),
+    };
+    number.map(Slot::Constant).map_err(|words| Fault::new(line, words))
+}
+
+fn judge_name(text: &str, role: Role) -> Result<(), String> {
+    if RESERVED.contains(&text) {
+        return Err(role.misplaced(&format!("`{text}`")));
+    }
+    if COMPARES.contains(&text) {
+        return Err(format!("`{text}` belongs in the tests of a question, behind `where`"));
+    }
+    if let Some(at) = DOCUMENT_WORDS.iter().position(|word| *word == text) {
+        return Err(format!("`{text}` is written `{}` here", FIVE_WORDS[at]));
+    }
+    let small = text.to_lowercase();
+    let known = FIVE_WORDS.contains(&&*small) || RESERVED.contains(&&*small);
+    if known && small != text {
+        return Err(format!("`{text}` is written in small letters: `{small}`"));
+    }
+    if text.chars().all(|letter| letter.is_ascii_digit() || "-–—.".contains(letter)) {
+        let misplaced = role.misplaced(&format!("`{text}`"));
+        return Err(format!("{misplaced} (a name that is a number is put in quotes: \"{text}\")"));
+    }
+    Ok(())
+}
+
+/// When it holds, if that is said: `always`, a variable, or a list; `during` may stand before it.
+pub fn when(cursor: &mut Cursor, kind: Kind) -> Result<Option<When>, Fault> {
+    let during = cursor.take("during").is_some();
+    if cursor.take("always").is_some() {
+        return Ok(Some(When::Constant(kind.top())));
+    }
+    if let Some(Word::Variable(name)) = cursor.peek(0) {
+        cursor.word();
+        return Ok(Some(When::Variable(name.clone())));
+    }
+    let line = cursor.line();
+    let items = list(cursor)?;
+    if items.is_empty() {
+        let missing = format!("behind `during` stand {}, a ?variable or `always`", kind.example());
+        return if during { Err(cursor.fault(missing)) } else { Ok(None) };
+    }
+    let value = kind.value(&items).map_err(|words| Fault::new(line, words))?;
+    Ok(Some(When::Constant(value)))
+}
+
+/// The words up to the end of a list; a comma stands between two of them or not.
+fn list<'a>(cursor: &mut Cursor<'a>) -> Result<Vec<&'a str>, Fault> {
+    let mut items = Vec::new();
+    while let Some(item) = list_item(cursor, 0) {
+        items.push(item);
+        cursor.word();
+        if cursor.peek(0) == Some(&Word::Comma) {
+            if list_item(cursor, 1).is_none() {
+                return Err(cursor.fault("something is missing behind the `,`"));
+            }
+            cursor.word();
+        }
+    }
+    Ok(items)
+}
+
+fn list_item<'a>(cursor: &Cursor<'a>, ahead: usize) -> Option<&'a str> {
+    match cursor.peek(ahead)? {
+        Word::Plain(text) if !LIST_ENDS.contains(&text.as_str()) => Some(text),
+        _ => None,
+    }
+}
+
+/// A line of the book: subject, relation, object, and when it holds (nothing: always).
+pub fn row(cursor: &mut Cursor, names: &mut Names, kind: Kind) -> Result<([u16; 3], u64), Fault> {
+    let mut triple = [0; 3];
+    for (number, role) in triple.iter_mut().zip(ROLES) {
+        *number = match term(cursor, names, role)? {
+            Slot::Constant(number) => number,
+            Slot::Variable(name) => return Err(no_variable(cursor, &name)),
+        };
+    }
+    let value = match when(cursor, kind)? {
+        None => return Err(no_when(cursor, kind)),
+        Some(When::Constant(value)) => value,
+        Some(When::Variable(name)) => return Err(no_variable(cursor, &name)),
+    };
+    nothing_left(cursor)?;
+    Ok((triple, value))
+}
+
+/// A year that was forgotten must not become every year.
+fn no_when(cursor: &Cursor, kind: Kind) -> Fault {
+    let missing = cursor.fault(format!("say when: {}, or `always`", kind.example()));
+    nothing_left(cursor).err().unwrap_or(missing)
+}
+
+fn no_variable(cursor: &Cursor, name: &str) -> Fault {
+    cursor
+        .fault(format!("`?{name}` is a variable; only a question has them, and begins with `ask`"))
+}
+
+fn nothing_left(cursor: &Cursor) -> Result<(), Fault> {
+    match cursor.peek(0) {
+        None => Ok(()),
+        Some(word) if LIST_ENDS.iter().any(|end| word.is(end)) => {
+            let where_it_belongs = "belongs in questions; between years stands a comma";
+            Err(cursor.fault(format!("{} {where_it_belongs}", word.shown())))
+        }
+        Some(word) => Err(cursor.fault(format!("{} is too much in this line", word.shown()))),
+    }
+}
+
+/// The line that says the book's kind. Whether the first year is allowed is for the program to say.
+pub fn kind(cursor: &mut Cursor) -> Result<Kind, Fault> {
+    let line = cursor.line();
+    cursor.word();
+    let kinds = "the kinds are: years from 2000, sheets, degree, strict";
+    let kind = match cursor.word() {
+        Some(word) if word.is("years") => Kind::Years { base: first_year(cursor)? },
+        Some(word) if word.is("sheets") => Kind::Sheets,
+        Some(word) if word.is("degree") => Kind::Degree,
+        Some(word) if word.is("strict") => Kind::Strict,
+        Some(word) => {
+            return Err(Fault::new(line, format!("no kind is {}; {kinds}", word.shown())))
+        }
+        None => return Err(Fault::new(line, format!("the kind is missing; {kinds}"))),
+    };
+    nothing_left(cursor)?;
+    Ok(kind)
+}
+
+fn first_year(cursor: &mut Cursor) -> Result<u16, Fault> {
+    let fault = cursor.fault("the first year is missing or no year: kind years from 2000");
+    cursor.take("from").ok_or_else(|| fault.clone())?;
+    match cursor.word() {
+        Some(Word::Plain(year)) => year.parse().map_err(|_| fault),
+        _ => Err(fault),
+    }
+}

@@ -1,0 +1,155 @@
+//! What is wrong with a text is said with its line, in plain words.
+
+mod common;
+use fitting::text::read;
+
+/// The faults of a text as `LINE: WORDS`.
+fn faults(text: &[u8]) -> Vec<String> {
+    match read(text) {
+        Ok(_) => Vec::new(),
+        Err(faults) => {
+            faults.iter().map(|fault| format!("{}: {}", fault.line, fault.words)).collect()
+        }
+    }
+}
+
+/// The one fault of a book's second line begins like this.
+fn second_line(line: &str, begins: &str) {
+    let found = faults(common::years(&format!("{line}\n")).as_bytes());
+    assert_eq!(found.len(), 1, "{line}: {found:?}");
+    assert!(found[0].starts_with(&format!("2: {begins}")), "{line}: {}", found[0]);
+}
+
+#[test]
+fn wrong_years() {
+    second_line("lamp is led 2007-2005", "the run 2007-2005 is backwards: write 2005-2007");
+    second_line("lamp is led 1999", "year 1999 is outside this book's years, 2000 to 2063");
+    second_line("lamp is led 2064", "year 2064 is outside");
+    second_line("lamp is led 2005-", "`2005-` is not a year");
+    second_line("lamp is led 20O5", "`20O5` is not a year");
+    second_line("lamp is led 2000 - 2002", "`-` is not a year");
+    second_line("lamp is led 2000,", "something is missing behind the `,`");
+    second_line(
+        "lamp is led 2000 and 2002",
+        "`and` belongs in questions; between years stands a comma",
+    );
+    second_line("lamp is led always 2005", "`2005` is too much in this line");
+    second_line("lamp is led", "say when: years such as 2000-2002, 2005, or `always`");
+    second_line("lamp is led during", "behind `during` stand years");
+}
+
+#[test]
+fn wrong_terms() {
+    second_line("lamp", "the relation is missing");
+    second_line("lamp is", "the object is missing");
+    second_line("lamp is 2000-2002", "`2000-2002` stands where the object should be");
+    second_line("lamp is rear light 2000", "`light` is not a year");
+    second_line("lamp, van is led", "`,` stands where the relation should be");
+    second_line("lamp Is led 2000", "`Is` is written in small letters: `is`");
+    second_line("lamp type led 2000", "`type` is written `is` here");
+    second_line("lamp is ?x 2000", "`?x` is a variable; only a question has them");
+    second_line("lamp is led ?w", "`?w` is a variable; only a question has them");
+    second_line("lamp is led (2000)", "`(` is too much in this line");
+    second_line("lamp is \"led 2000", "a quote is opened and not closed");
+    second_line(r#"lamp is "l\ed" 2000"#, "in quotes, \\ stands only before");
+    second_line("lamp is “led” 2000", "“led”: use plain quotes");
+    second_line("lamp is 5\" 2000", "5\": a quote stands at the beginning of a word only");
+    second_line("lamp is _ 2000", "a blank needs a name");
+    second_line("lamp is l\u{7}d 2000", "there is a character here that cannot be printed");
+    second_line("and lamp is led 2000", "this line goes on with a question, but none is above it");
+}
+
+#[test]
+fn wrong_questions() {
+    second_line("ask", "the subject is missing");
+    second_line("ask ?x is led", "say when");
+    second_line("ask (?x is led ?w", "a `(` of this line is not closed");
+    second_line("ask ?x is led ?w)", "this `)` closes nothing");
+    second_line("ask ?x is led ?w and", "the subject is missing");
+    second_line("ask ?x is led ?w ?x is rear ?w", "`?x` where `and`, `or` or `where` could go on");
+    second_line(
+        "ask (?x is led ?w lamp)",
+        "`lamp` where `and`, `or` or `where` could go on (a parenthesis is open since line 2)",
+    );
+    second_line("ask ?x is led ?w where ?x", "a test is");
+    second_line("ask ?x is led ?w where ?x = ", "there is nothing to compare with");
+    second_line(
+        "ask ?x is led ?w where ?w = 2005",
+        "`?w` says when, and cannot stand for a name (it is tested by `covers`)",
+    );
+    second_line(
+        "ask ?x is led ?w where ?x covers 2005",
+        "`?x` stands for a name, and cannot say when",
+    );
+    second_line("ask ?x is led ?w where ?w covers ?v", "behind `covers` stand years");
+    second_line("ask ?x is led ?w where led covers 2005", "a ?variable stands before `covers`");
+    second_line("ask ?x is led ?w where ?x=?y", "?x=?y: a variable's name has");
+    second_line("ask ?x is ?w ?w", "`?w` stands for a name, and cannot say when");
+    second_line("ask ?x is led ?w where ?x = a or ?x is b ?w", "`or` stands behind a test");
+    second_line(
+        "ask ?x is led ?w and ?x != lamp",
+        "`!=` belongs in the tests of a question, behind `where`",
+    );
+    second_line("ask ?x is led ?w where ?x = lamp where", "a test is");
+    second_line("ask ? is led ?w", "a variable needs a name");
+    second_line(&format!("ask {}", "(".repeat(100_000)), "too many parentheses in one another");
+    let long = vec!["?x is led ?w"; 4_000].join(" and ");
+    second_line(&format!("ask {long}"), "this question is too long for the counter");
+}
+
+#[test]
+fn wrong_kinds() {
+    let one = |text: &str, begins: &str| {
+        let found = faults(text.as_bytes());
+        assert!(found.len() == 1 && found[0].starts_with(begins), "{text}: {found:?}");
+    };
+    one("lamp is led 2000\nvan is led 2000\n", "1: the first line says the kind");
+    one("\n# lamps\nkind colours\nlamp is led 2000\n", "3: no kind is `colours`; the kinds are");
+    one("kind\n", "1: the kind is missing");
+    one("kind years\n", "1: the first year is missing");
+    one("kind years from soon\n", "1: the first year is missing or no year");
+    one("kind years from 70000\n", "1: the first year is missing or no year");
+    one("kind sheets from 3\n", "1: `from` is too much in this line");
+    one("kind sheets\nlamp is led 64\n", "2: sheet 64 is outside this book's sheets, 0 to 63");
+    one(
+        "kind degree\nlamp is led 0.7\n",
+        "2: `0.7` is not a degree: degrees are whole numbers from 1 to 1000",
+    );
+    one("kind strict\nlamp is led 700, 800\n", "2: one degree is wanted here");
+}
+
+/// A fault in the middle of a question over several lines has its own line.
+#[test]
+fn each_fault_has_its_own_line() {
+    let text =
+        common::years("lamp is\n\nask ?x is led ?w\n  and ?x is rear 1999\nvan is led 1998\n");
+    let lines: Vec<String> =
+        faults(text.as_bytes()).iter().map(|fault| fault[..2].to_string()).collect();
+    assert_eq!(lines, ["2:", "5:", "6:"]);
+}
+
+#[test]
+fn files_that_are_no_text() {
+    assert_eq!(faults(b"kind sheets\nlamp \xFF is led\n"), ["2: this is not plain text (UTF-8)"]);
+    assert_eq!(faults(b"\xFF\xFEk\0"), ["1: this is not plain text (UTF-8)"]);
+}
+
+/// A mark at the file's beginning, tabs, line ends of another system, no line end at the end.
+#[test]
+fn other_peoples_editors() {
+    let text = "\u{FEFF}kind years from 2000\r\n\tlamp\tis\tled\u{A0}2000–2002\r\n\r\nRücklicht is led 2001";
+    let listing = "kind years from 2000\nlamp       is  led  2000-2002\nRücklicht  is  led  2001\n";
+    assert_eq!(common::close(text), (listing.to_string(), true));
+}
+
+/// The names that a text can have, and one more.
+#[test]
+fn names_run_out() {
+    let names = |count: usize| -> String {
+        let rows = (0..count).map(|number| format!("ask n{number} is led always\n"));
+        common::years(&rows.collect::<String>())
+    };
+    assert_eq!(faults(names(16_378).as_bytes()).len(), 0);
+    let found = faults(names(16_379).as_bytes());
+    assert_eq!(found, ["16380: n16378 is one name too many: a book has 16379"]);
+}
