@@ -8,7 +8,6 @@ ghost use Rattle.book.specs.Reading.{Reading};
 ghost use Rattle.book.specs.Writing.{Writing};
 ghost use Rattle.closing.specs.Closing.{Closing};
 ghost use Rattle.trackvesper.specs.ClosedBook.{ClosedBook};
-ghost use Prim.Native.Nat.{_<_};
 ghost use Rattle.trial_calls.specs.Questions.{Counted, StepAt};
 
 #[no_mangle]
@@ -137,7 +136,7 @@ pub extern "C" fn trial_compile(
     answer.number
 }
 
-// One of the 48 records of the same answer, as eleven numbers in the order of its fields.
+// One of the 48 records of the same answer, as eleven numbers in the order of its fields; zeros past them.
 #[no_mangle]
 pub extern "C" fn trial_step(
     kind: u8,
@@ -146,11 +145,14 @@ pub extern "C" fn trial_step(
     index: usize,
     fields: &mut [u64; 11],
 )
-    requires { ⌜ index < 48 ⌝ }
     ensures { λ r. ⌜ StepAt kind (now (bytes .entry)) room index (now (fields .exit)) ⌝ }
 {
     let answer = trackvesper::compile(kind, bytes, room);
     let records = answer.records;
+    if index >= 48 {
+        *fields = [0; 11];
+        return;
+    }
     let step = records[index];
     *fields = [
         step.op as u64,

@@ -253,7 +253,7 @@ pub fn records(kind: u8, question: &[u8], room: usize) -> Vec<[u64; FIELDS]> {
     (0..MOST_STEPS)
         .map(|index| {
             let mut fields = [u64::MAX; FIELDS];
-            // SAFETY: the slice is live for the call, which only reads it; the index is below 48.
+            // SAFETY: the slice is live for the call, which only reads it.
             unsafe {
                 trial_step(kind, question.as_ptr(), question.len(), room, index, &mut fields)
             };
