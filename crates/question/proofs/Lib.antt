@@ -1,4 +1,7 @@
 -- Laws that belong to no one function.
+pub mod Masks
+pub mod SurelyBound
+pub mod Faulty
 pub mod Refusing
 pub mod Lanes
 pub mod Laws

@@ -3,6 +3,7 @@ pub mod Part
 pub mod Format
 pub mod Bound
 pub mod Outside
+pub mod Surely
 pub mod Steps
 pub mod Records
 pub mod Compiling
