@@ -11,4 +11,10 @@ pub mod Slotted
 pub mod Faithful
 pub mod Made
 pub mod Lanewise
+pub mod Judged
+pub mod Outcomes
+pub mod Accepted
+pub mod AtMost
+pub mod TargetsLeadOn
+pub mod ZeroIsDone
 pub mod CompilingDetermined

@@ -5,6 +5,7 @@ pub mod Bound
 pub mod Outside
 pub mod Surely
 pub mod Steps
+pub mod Legal
 pub mod Records
 pub mod Compiling
 pub mod Inner
