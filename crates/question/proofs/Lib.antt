@@ -1,7 +1,4 @@
 -- Laws that belong to no one function.
-pub mod Masks
-pub mod SurelyBound
-pub mod Faulty
 pub mod Refusing
 pub mod Lanes
 pub mod Laws
@@ -17,4 +14,12 @@ pub mod Accepted
 pub mod AtMost
 pub mod TargetsLeadOn
 pub mod ZeroIsDone
+pub mod Masks
+pub mod SurelyBound
+pub mod Faulty
+pub mod Limits
+pub mod LowestPlace
+pub mod AfterReading
+pub mod ReadsBack
+pub mod Asked
 pub mod CompilingDetermined

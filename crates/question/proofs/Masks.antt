@@ -70,7 +70,7 @@ pub has-below-shift : (m j i : ℕ) → i < j → has (m * 2 ^ j) i ≡ false
 has-below-shift m j i h =
     let d : ℕ = j - suc i in
     let e : j ≡ suc d + i = omega arith in
-    let f : m * 2 ^ j ≡ (m * 2 ^ suc d) * 2 ^ i 
+    let f : m * 2 ^ j ≡ (m * 2 ^ suc d) * 2 ^ i
     = ap (λ (x : ℕ). m * 2 ^ x) e ∙ ap (λ (x : ℕ). m * x) (pow-add 2 (suc d) i) ∙ sym (mul-assoc m (2 ^ suc d) (2 ^ i)) in
     ap (λ (x : ℕ). has x i) f ∙ ap (has ((m * 2 ^ suc d) * 2 ^ i)) (sym (add-zero i)) ∙ has-shifted (m * 2 ^ suc d) i 0 ∙ even-has-none m d
 

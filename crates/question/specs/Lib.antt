@@ -6,6 +6,7 @@ pub mod Outside
 pub mod Surely
 pub mod Steps
 pub mod Legal
+pub mod Writing
 pub mod Records
 pub mod Compiling
 pub mod Inner
