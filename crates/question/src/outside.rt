@@ -40,7 +40,7 @@ fn used_in(b: &[u8], at: usize, end: usize) -> u64
     let h = parts::field_at(b, at, end);
     match h {
         Head::Unfit => 0,
-        Head::Within { tag, from, to } => {
+        Head::Within(tag, from, to) => {
             if tag == parts::TRIPLE {
                 if to - from == slots::TRIPLE_SIZE {
                     triple_annotation(b, from)
@@ -65,7 +65,7 @@ fn used_pair(b: &[u8], at: usize, end: usize) -> u64
     let h = parts::field_at(b, at, end);
     match h {
         Head::Unfit => 0,
-        Head::Within { tag, from, to } => {
+        Head::Within(tag, from, to) => {
             let l = used_in(b, at, end);
             let r = used_in(b, to, end);
             l | r
@@ -81,7 +81,7 @@ pub fn stray_in(b: &[u8], at: usize, end: usize, outer: u64) -> usize
     let h = parts::field_at(b, at, end);
     match h {
         Head::Unfit => 0,
-        Head::Within { tag, from, to } => {
+        Head::Within(tag, from, to) => {
             if tag == parts::TRIPLE {
                 0
             } else if tag == parts::BOTH {
@@ -102,7 +102,7 @@ fn stray_pair(b: &[u8], at: usize, end: usize, outer: u64) -> usize
     let h = parts::field_at(b, at, end);
     match h {
         Head::Unfit => 0,
-        Head::Within { tag, from, to } => {
+        Head::Within(tag, from, to) => {
             let left = used_in(b, at, end);
             let right = used_in(b, to, end);
             let first = stray_in(b, at, end, outer | right);
@@ -119,7 +119,7 @@ fn stray_only(b: &[u8], holder: usize, at: usize, end: usize, outer: u64) -> usi
     let h = parts::field_at(b, at, end);
     match h {
         Head::Unfit => 0,
-        Head::Within { tag, from, to } => {
+        Head::Within(tag, from, to) => {
             let inner = stray_in(b, at, end, outer);
             if end - to < 6 {
                 0
