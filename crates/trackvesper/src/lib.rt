@@ -1,4 +1,4 @@
-// Trackvesper: fitting books, what follows from them, and the call for the tester's C host.
+// Trackvesper: fitting books, what follows from them, questions about them, and the call for the tester's C host.
 // The calls below take anything and refuse by number and place; the README has the table of numbers.
 ghost use mathlib.Core.Path.{_≡_};
 ghost use Prim.Native.Nat.{_<_};
@@ -13,6 +13,8 @@ pub use book::read;
 pub use book::write;
 // What follows from a table.
 pub use closing::close;
+// Questions: checked and compiled to steps.
+pub use question::compile;
 
 // A number and a length or place in one word.
 fn pack(number: u8, rest: usize) -> u64

@@ -8,6 +8,7 @@ ghost use Rattle.book.specs.Reading.{Reading};
 ghost use Rattle.book.specs.Writing.{Writing};
 ghost use Rattle.closing.specs.Closing.{Closing};
 ghost use Rattle.trackvesper.specs.ClosedBook.{ClosedBook};
+ghost use Rattle.trial_calls.specs.Questions.{Counted, StepAt};
 
 #[no_mangle]
 pub extern "C" fn trial_check(
@@ -117,4 +118,53 @@ pub extern "C" fn trial_close_book(book: &[u8], out: &mut [u8]) -> u64
     ensures { λ r. ⌜ ClosedBook (now (book .entry)) (now (out .entry)) (now (out .exit)) r ⌝ }
 {
     trackvesper::trackvesper_close_book(book, out)
+}
+
+#[no_mangle]
+pub extern "C" fn trial_compile(
+    kind: u8,
+    bytes: &[u8],
+    room: usize,
+    place: &mut usize,
+    count: &mut usize,
+) -> u8
+    ensures { λ r. ⌜ Counted kind (now (bytes .entry)) room r (now (place .exit)) (now (count .exit)) ⌝ }
+{
+    let answer = trackvesper::compile(kind, bytes, room);
+    *place = answer.place;
+    *count = answer.count;
+    answer.number
+}
+
+// One of the 48 records of the same answer, as eleven numbers in the order of its fields; zeros past them.
+#[no_mangle]
+pub extern "C" fn trial_step(
+    kind: u8,
+    bytes: &[u8],
+    room: usize,
+    index: usize,
+    fields: &mut [u64; 11],
+)
+    ensures { λ r. ⌜ StepAt kind (now (bytes .entry)) room index (now (fields .exit)) ⌝ }
+{
+    let answer = trackvesper::compile(kind, bytes, room);
+    let records = answer.records;
+    if index >= 48 {
+        *fields = [0; 11];
+        return;
+    }
+    let step = records[index];
+    *fields = [
+        step.op as u64,
+        step.test as u64,
+        step.target as u64,
+        step.smark as u64,
+        step.subj as u64,
+        step.pmark as u64,
+        step.pred as u64,
+        step.omark as u64,
+        step.obj as u64,
+        step.amark as u64,
+        step.ann,
+    ];
 }

@@ -5,6 +5,8 @@
 
 use trial::book::{ReadOut, WriteOut};
 use trial::closing::CloseOut;
+use trial::question::Compiled;
+use trial::steps::MOST_STEPS;
 use trial::table::{Added, Lanes, Row, Verdict};
 
 extern "C" {
@@ -90,7 +92,28 @@ extern "C" {
     ) -> u8;
 
     fn trial_close_book(book: *const u8, book_len: usize, out: *mut u8, out_len: usize) -> u64;
+
+    fn trial_compile(
+        kind: u8,
+        bytes: *const u8,
+        bytes_len: usize,
+        room: usize,
+        place: *mut usize,
+        count: *mut usize,
+    ) -> u8;
+
+    fn trial_step(
+        kind: u8,
+        bytes: *const u8,
+        bytes_len: usize,
+        room: usize,
+        index: usize,
+        fields: *mut [u64; FIELDS],
+    );
 }
+
+/// The fields of a step record.
+pub const FIELDS: usize = 11;
 
 pub fn check(kind: u8, lanes: &Lanes, count: usize) -> Verdict {
     let mut place = usize::MAX;
@@ -213,4 +236,28 @@ pub fn close(kind: u8, lanes: &mut Lanes, mut count: usize) -> CloseOut {
 pub fn close_book(book: &[u8], out: &mut [u8]) -> u64 {
     // SAFETY: both slices are live for the call and do not overlap.
     unsafe { trial_close_book(book.as_ptr(), book.len(), out.as_mut_ptr(), out.len()) }
+}
+
+pub fn compile(kind: u8, question: &[u8], room: usize) -> Compiled {
+    let (mut place, mut count) = (usize::MAX, usize::MAX);
+    // SAFETY: the slice is live for the call, which only reads it.
+    let number = unsafe {
+        trial_compile(kind, question.as_ptr(), question.len(), room, &mut place, &mut count)
+    };
+    Compiled { number: u32::from(number), place: place as u64, steps: count }
+}
+
+/// The records that go with `compile`, each as its fields: what a step does, a test's mark, a
+/// target, then mark and value of subject, predicate, object and annotation.
+pub fn records(kind: u8, question: &[u8], room: usize) -> Vec<[u64; FIELDS]> {
+    (0..MOST_STEPS)
+        .map(|index| {
+            let mut fields = [u64::MAX; FIELDS];
+            // SAFETY: the slice is live for the call, which only reads it.
+            unsafe {
+                trial_step(kind, question.as_ptr(), question.len(), room, index, &mut fields)
+            };
+            fields
+        })
+        .collect()
 }

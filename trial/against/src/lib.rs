@@ -8,7 +8,9 @@ pub mod baseline;
 pub mod books;
 pub mod calls;
 pub mod closings;
+pub mod questions;
 pub mod stored;
+pub mod stored_questions;
 pub mod tables;
 
 /// What differed, with the input it differed on.
@@ -18,13 +20,14 @@ pub type Difference = String;
 pub type Case = fn(u64) -> Result<(), Difference>;
 
 /// Every kind of case, by name.
-pub const CASES: [(&str, Case); 6] = [
+pub const CASES: [(&str, Case); 7] = [
     ("check", tables::check),
     ("add", tables::add),
     ("read", books::read),
     ("write", books::write),
     ("close", closings::close),
     ("close book", closings::close_book),
+    ("compile", questions::compile),
 ];
 
 /// Compares what the two gave; `input` is only put together where they differ.

@@ -1,13 +1,12 @@
-use borrow.Author.Tests.{eq-eqb, ne-eqb}
-use mathlib.Core.Path.{_≡_, refl, sym, ap, _∙_}
+-- By the tag at the place: a law of `Second` for each kind of part that the bytes can hold there.
+use mathlib.Core.Path.{sym, _∙_}
 use native.Mathlib.Omega.{arith}
 use borrow.Author.Needs.{needs}
 use Prim.Native.Nat.{ℕ, _+_, _-_}
 use denote.Ref.{now}
 use Rattle.question.proofs.Laws as read
-use Rattle.question.specs.Format.{patternAt, testAt}
 use Rattle.question.proofs.Second as laws
-use Prim.Native.Nat.{ℕ, _<_}
+use Prim.Native.Nat.{_<_}
 use borrow.Fn.Kinds.{In}
 use borrow.Fn.PlainCycle.{Measures, is, falls, and}
 use Rattle.question.proofs.outside.stray_in.Reads as stray-in
@@ -58,7 +57,6 @@ abbrev stray-pair-below : ℕ → In 1 stray-pair-kinds.ps
 stray-pair-below t =
     and 1 stray-pair-kinds.ps (falls 1 stray-pair-kinds.ps _<_ μ-stray-pair t) stray-pair.Pre
 
--- src/lib.rt:74:9
 stray-in-field-at-requires : (t : ℕ) → stray-in-lts.Need-field-at-requires (
   field-at-reads.Asked,
   field-at-reads.Learnt,
@@ -67,9 +65,10 @@ stray-in-field-at-requires : (t : ℕ) → stray-in-lts.Need-field-at-requires (
   stray-only-below t,
   stray-only.Post,
 ) (stray-in-at t) stray-in.Post
-stray-in-field-at-requires t c κs = (c .before .pre) .1
+stray-in-field-at-requires t c κs =
+    let the-pre = c .before .pre in
+    the-pre .1
 
--- src/lib.rt:76:24
 stray-in-enum-told : (t : ℕ) → stray-in-lts.Need-enum-told (
   field-at-reads.Asked,
   field-at-reads.Learnt,
@@ -80,7 +79,6 @@ stray-in-enum-told : (t : ℕ) → stray-in-lts.Need-enum-told (
 ) (stray-in-at t) stray-in.Post
 stray-in-enum-told t c = (c .match) .keys1
 
--- src/lib.rt:77:23
 stray-in-enum-known-h : (t : ℕ) → stray-in-lts.Need-enum-known-h (
   field-at-reads.Asked,
   field-at-reads.Learnt,
@@ -91,7 +89,6 @@ stray-in-enum-known-h : (t : ℕ) → stray-in-lts.Need-enum-known-h (
 ) (stray-in-at t) stray-in.Post
 stray-in-enum-known-h t c = (c .match) .keys2
 
--- src/lib.rt:81:17
 stray-in-stray-pair-requires : (t : ℕ) → stray-in-lts.Need-stray-pair-requires (
   field-at-reads.Asked,
   field-at-reads.Learnt,
@@ -100,9 +97,13 @@ stray-in-stray-pair-requires : (t : ℕ) → stray-in-lts.Need-stray-pair-requir
   stray-only-below t,
   stray-only.Post,
 ) (stray-in-at t) stray-in.Post
-stray-in-stray-pair-requires t c κs = let w = (read.fits (now ((c .before .before .before .before .before .before .before .args) .b)) ((c .before .before .before .before .before .before .before .args) .at) ((c .before .before .before .before .before .before .before .args) .end) ((c .before .before .before .h) .given .0 .0) ((c .before .before .before .h) .given .0 .1 .0) ((c .before .before .before .h) .given .0 .1 .1 .0) ((c .before .before .before .before .before .before .before .pre) .1 .0) (sym ((c .before .before .before .h) .given .1) ∙ (c .before .before .before .before .before .field-at) .ensures)) in omega (arith, (c .before .before .before .before .before .before .before .pre), w)
+stray-in-stray-pair-requires t c κs =
+    let the-args = c .before .before .before .before .before .before .before .args in
+    let the-h = c .before .before .before .h in
+    let the-pre = c .before .before .before .before .before .before .before .pre in
+    let the-field-at = c .before .before .before .before .before .field-at in
+    let w = (read.fits (now (the-args .b)) (the-args .at) (the-args .end) (the-h .given .0 .0) (the-h .given .0 .1 .0) (the-h .given .0 .1 .1 .0) (the-pre .1 .0) (sym (the-h .given .1) ∙ the-field-at .ensures)) in omega (arith, the-pre, w)
 
--- src/lib.rt:83:17
 stray-in-stray-pair-requires-2 : (t : ℕ) → stray-in-lts.Need-stray-pair-requires-2 (
   field-at-reads.Asked,
   field-at-reads.Learnt,
@@ -111,9 +112,13 @@ stray-in-stray-pair-requires-2 : (t : ℕ) → stray-in-lts.Need-stray-pair-requ
   stray-only-below t,
   stray-only.Post,
 ) (stray-in-at t) stray-in.Post
-stray-in-stray-pair-requires-2 t c κs = let w = (read.fits (now ((c .before .before .before .before .before .before .before .before .args) .b)) ((c .before .before .before .before .before .before .before .before .args) .at) ((c .before .before .before .before .before .before .before .before .args) .end) ((c .before .before .before .before .h) .given .0 .0) ((c .before .before .before .before .h) .given .0 .1 .0) ((c .before .before .before .before .h) .given .0 .1 .1 .0) ((c .before .before .before .before .before .before .before .before .pre) .1 .0) (sym ((c .before .before .before .before .h) .given .1) ∙ (c .before .before .before .before .before .before .field-at) .ensures)) in omega (arith, (c .before .before .before .before .before .before .before .before .pre), w)
+stray-in-stray-pair-requires-2 t c κs =
+    let the-args = c .before .before .before .before .before .before .before .before .args in
+    let the-h = c .before .before .before .before .h in
+    let the-pre = c .before .before .before .before .before .before .before .before .pre in
+    let the-field-at = c .before .before .before .before .before .before .field-at in
+    let w = (read.fits (now (the-args .b)) (the-args .at) (the-args .end) (the-h .given .0 .0) (the-h .given .0 .1 .0) (the-h .given .0 .1 .1 .0) (the-pre .1 .0) (sym (the-h .given .1) ∙ the-field-at .ensures)) in omega (arith, the-pre, w)
 
--- src/lib.rt:85:17
 stray-in-stray-only-requires : (t : ℕ) → stray-in-lts.Need-stray-only-requires (
   field-at-reads.Asked,
   field-at-reads.Learnt,
@@ -122,9 +127,13 @@ stray-in-stray-only-requires : (t : ℕ) → stray-in-lts.Need-stray-only-requir
   stray-only-below t,
   stray-only.Post,
 ) (stray-in-at t) stray-in.Post
-stray-in-stray-only-requires t c κs = let w = (read.fits (now ((c .before .before .before .before .before .before .before .before .args) .b)) ((c .before .before .before .before .before .before .before .before .args) .at) ((c .before .before .before .before .before .before .before .before .args) .end) ((c .before .before .before .before .h) .given .0 .0) ((c .before .before .before .before .h) .given .0 .1 .0) ((c .before .before .before .before .h) .given .0 .1 .1 .0) ((c .before .before .before .before .before .before .before .before .pre) .1 .0) (sym ((c .before .before .before .before .h) .given .1) ∙ (c .before .before .before .before .before .before .field-at) .ensures)) in omega (arith, (c .before .before .before .before .before .before .before .before .pre), w)
+stray-in-stray-only-requires t c κs =
+    let the-args = c .before .before .before .before .before .before .before .before .args in
+    let the-h = c .before .before .before .before .h in
+    let the-pre = c .before .before .before .before .before .before .before .before .pre in
+    let the-field-at = c .before .before .before .before .before .before .field-at in
+    let w = (read.fits (now (the-args .b)) (the-args .at) (the-args .end) (the-h .given .0 .0) (the-h .given .0 .1 .0) (the-h .given .0 .1 .1 .0) (the-pre .1 .0) (sym (the-h .given .1) ∙ the-field-at .ensures)) in omega (arith, the-pre, w)
 
--- src/lib.rt:70:1
 stray-in-returns : (t : ℕ) → stray-in-lts.Need-returns (
   field-at-reads.Asked,
   field-at-reads.Learnt,
@@ -133,9 +142,11 @@ stray-in-returns : (t : ℕ) → stray-in-lts.Need-returns (
   stray-only-below t,
   stray-only.Post,
 ) (stray-in-at t) stray-in.Post
-stray-in-returns t c = laws.stray-unfit (now ((c .before .before .before .before .args) .b)) ((c .before .before .before .before .args) .at) ((c .before .before .before .before .args) .end) ((c .before .before .before .before .args) .outer) (sym ((c .enum-told) .given .1) ∙ (c .before .before .field-at) .ensures)
+stray-in-returns t c =
+    let the-args = c .before .before .before .before .args in
+    let the-field-at = c .before .before .field-at in
+    laws.stray-unfit (now (the-args .b)) (the-args .at) (the-args .end) (the-args .outer) (sym ((c .enum-told) .given .1) ∙ the-field-at .ensures)
 
--- src/lib.rt:70:1
 stray-in-returns-2 : (t : ℕ) → stray-in-lts.Need-returns-2 (
   field-at-reads.Asked,
   field-at-reads.Learnt,
@@ -144,9 +155,12 @@ stray-in-returns-2 : (t : ℕ) → stray-in-lts.Need-returns-2 (
   stray-only-below t,
   stray-only.Post,
 ) (stray-in-at t) stray-in.Post
-stray-in-returns-2 t c = laws.stray-triple ((now ((c .before .before .before .before .before .before .args) .b))) ((c .before .before .before .before .before .before .args) .at) ((c .before .before .before .before .before .before .args) .end) (sym ((c .before .before .h) .given .1) ∙ (c .before .before .before .before .field-at) .ensures) ((c .before .before .before .before .before .before .args) .outer) ((c .if1) .taken)
+stray-in-returns-2 t c =
+    let the-args = c .before .before .before .before .before .before .args in
+    let the-h = c .before .before .h in
+    let the-field-at = c .before .before .before .before .field-at in
+    laws.stray-triple ((now (the-args .b))) (the-args .at) (the-args .end) (sym (the-h .given .1) ∙ the-field-at .ensures) (the-args .outer) ((c .if1) .taken)
 
--- src/lib.rt:70:1
 stray-in-returns-3 : (t : ℕ) → stray-in-lts.Need-returns-3 (
   field-at-reads.Asked,
   field-at-reads.Learnt,
@@ -155,9 +169,13 @@ stray-in-returns-3 : (t : ℕ) → stray-in-lts.Need-returns-3 (
   stray-only-below t,
   stray-only.Post,
 ) (stray-in-at t) stray-in.Post
-stray-in-returns-3 t c = laws.stray-both ((now ((c .before .before .before .before .before .before .before .before .args) .b))) ((c .before .before .before .before .before .before .before .before .args) .at) ((c .before .before .before .before .before .before .before .before .args) .end) (sym ((c .before .before .before .before .h) .given .1) ∙ (c .before .before .before .before .before .before .field-at) .ensures) ((c .before .before .before .before .before .before .before .before .args) .outer) ((c .before .if2) .taken) ((c .stray-pair) .ensures)
+stray-in-returns-3 t c =
+    let the-args = c .before .before .before .before .before .before .before .before .args in
+    let the-h = c .before .before .before .before .h in
+    let the-field-at = c .before .before .before .before .before .before .field-at in
+    let the-if2 = c .before .if2 in
+    laws.stray-both ((now (the-args .b))) (the-args .at) (the-args .end) (sym (the-h .given .1) ∙ the-field-at .ensures) (the-args .outer) (the-if2 .taken) ((c .stray-pair) .ensures)
 
--- src/lib.rt:70:1
 stray-in-returns-4 : (t : ℕ) → stray-in-lts.Need-returns-4 (
   field-at-reads.Asked,
   field-at-reads.Learnt,
@@ -166,9 +184,13 @@ stray-in-returns-4 : (t : ℕ) → stray-in-lts.Need-returns-4 (
   stray-only-below t,
   stray-only.Post,
 ) (stray-in-at t) stray-in.Post
-stray-in-returns-4 t c = laws.stray-either ((now ((c .before .before .before .before .before .before .before .before .before .args) .b))) ((c .before .before .before .before .before .before .before .before .before .args) .at) ((c .before .before .before .before .before .before .before .before .before .args) .end) (sym ((c .before .before .before .before .before .h) .given .1) ∙ (c .before .before .before .before .before .before .before .field-at) .ensures) ((c .before .before .before .before .before .before .before .before .before .args) .outer) ((c .before .if3) .taken) ((c .stray-pair2) .ensures)
+stray-in-returns-4 t c =
+    let the-args = c .before .before .before .before .before .before .before .before .before .args in
+    let the-h = c .before .before .before .before .before .h in
+    let the-field-at = c .before .before .before .before .before .before .before .field-at in
+    let the-if3 = c .before .if3 in
+    laws.stray-either ((now (the-args .b))) (the-args .at) (the-args .end) (sym (the-h .given .1) ∙ the-field-at .ensures) (the-args .outer) (the-if3 .taken) ((c .stray-pair2) .ensures)
 
--- src/lib.rt:70:1
 stray-in-returns-5 : (t : ℕ) → stray-in-lts.Need-returns-5 (
   field-at-reads.Asked,
   field-at-reads.Learnt,
@@ -177,9 +199,15 @@ stray-in-returns-5 : (t : ℕ) → stray-in-lts.Need-returns-5 (
   stray-only-below t,
   stray-only.Post,
 ) (stray-in-at t) stray-in.Post
-stray-in-returns-5 t c = laws.stray-an-only ((now ((c .before .before .before .before .before .before .before .before .before .args) .b))) ((c .before .before .before .before .before .before .before .before .before .args) .at) ((c .before .before .before .before .before .before .before .before .before .args) .end) (sym ((c .before .before .before .before .before .h) .given .1) ∙ (c .before .before .before .before .before .before .before .field-at) .ensures) ((c .before .before .before .before .before .before .before .before .before .args) .outer) ((c .before .before .before .if1) .left) ((c .before .before .if2) .left) ((c .before .if3) .left) ((c .stray-only) .ensures)
+stray-in-returns-5 t c =
+    let the-args = c .before .before .before .before .before .before .before .before .before .args in
+    let the-h = c .before .before .before .before .before .h in
+    let the-field-at = c .before .before .before .before .before .before .before .field-at in
+    let the-if1 = c .before .before .before .if1 in
+    let the-if2 = c .before .before .if2 in
+    let the-if3 = c .before .if3 in
+    laws.stray-an-only ((now (the-args .b))) (the-args .at) (the-args .end) (sym (the-h .given .1) ∙ the-field-at .ensures) (the-args .outer) (the-if1 .left) (the-if2 .left) (the-if3 .left) ((c .stray-only) .ensures)
 
--- src/lib.rt:112:9
 stray-only-field-at-requires : (t : ℕ) → stray-only-lts.Need-field-at-requires (
   field-at-reads.Asked,
   field-at-reads.Learnt,
@@ -188,9 +216,10 @@ stray-only-field-at-requires : (t : ℕ) → stray-only-lts.Need-field-at-requir
   test-annotation-reads.Asked,
   test-annotation-reads.Learnt,
 ) (stray-only-at t) stray-only.Post
-stray-only-field-at-requires t c κs = omega (arith, (c .before .pre))
+stray-only-field-at-requires t c κs =
+    let the-pre = c .before .pre in
+    omega (arith, the-pre)
 
--- src/lib.rt:114:24
 stray-only-enum-told : (t : ℕ) → stray-only-lts.Need-enum-told (
   field-at-reads.Asked,
   field-at-reads.Learnt,
@@ -201,7 +230,6 @@ stray-only-enum-told : (t : ℕ) → stray-only-lts.Need-enum-told (
 ) (stray-only-at t) stray-only.Post
 stray-only-enum-told t c = (c .match) .keys1
 
--- src/lib.rt:115:23
 stray-only-enum-known-h : (t : ℕ) → stray-only-lts.Need-enum-known-h (
   field-at-reads.Asked,
   field-at-reads.Learnt,
@@ -212,7 +240,6 @@ stray-only-enum-known-h : (t : ℕ) → stray-only-lts.Need-enum-known-h (
 ) (stray-only-at t) stray-only.Post
 stray-only-enum-known-h t c = (c .match) .keys2
 
--- src/lib.rt:116:17
 stray-only-stray-in-requires : (t : ℕ) → stray-only-lts.Need-stray-in-requires (
   field-at-reads.Asked,
   field-at-reads.Learnt,
@@ -221,9 +248,10 @@ stray-only-stray-in-requires : (t : ℕ) → stray-only-lts.Need-stray-in-requir
   test-annotation-reads.Asked,
   test-annotation-reads.Learnt,
 ) (stray-only-at t) stray-only.Post
-stray-only-stray-in-requires t c κs = omega (arith, (c .before .before .before .before .before .pre))
+stray-only-stray-in-requires t c κs =
+    let the-pre = c .before .before .before .before .before .pre in
+    omega (arith, the-pre)
 
--- src/lib.rt:117:16
 stray-only-sub-if1 : (t : ℕ) → stray-only-lts.Need-sub-if1 (
   field-at-reads.Asked,
   field-at-reads.Learnt,
@@ -232,9 +260,13 @@ stray-only-sub-if1 : (t : ℕ) → stray-only-lts.Need-sub-if1 (
   test-annotation-reads.Asked,
   test-annotation-reads.Learnt,
 ) (stray-only-at t) stray-only.Post
-stray-only-sub-if1 t c = let w = (read.fits (now ((c .before .before .before .before .before .before .args) .b)) ((c .before .before .before .before .before .before .args) .at) ((c .before .before .before .before .before .before .args) .end) ((c .before .before .h) .given .0 .0) ((c .before .before .h) .given .0 .1 .0) ((c .before .before .h) .given .0 .1 .1 .0) ((c .before .before .before .before .before .before .pre) .1 .1) (sym ((c .before .before .h) .given .1) ∙ (c .before .before .before .before .field-at) .ensures)) in omega (arith, (c .before .before .before .before .before .before .pre), w)
+stray-only-sub-if1 t c =
+    let the-args = c .before .before .before .before .before .before .args in
+    let the-h = c .before .before .h in
+    let the-pre = c .before .before .before .before .before .before .pre in
+    let the-field-at = c .before .before .before .before .field-at in
+    let w = (read.fits (now (the-args .b)) (the-args .at) (the-args .end) (the-h .given .0 .0) (the-h .given .0 .1 .0) (the-h .given .0 .1 .1 .0) (the-pre .1 .1) (sym (the-h .given .1) ∙ the-field-at .ensures)) in omega (arith, the-pre, w)
 
--- src/lib.rt:120:41
 stray-only-add-test-annotation : (t : ℕ) → stray-only-lts.Need-add-test-annotation (
   field-at-reads.Asked,
   field-at-reads.Learnt,
@@ -243,9 +275,14 @@ stray-only-add-test-annotation : (t : ℕ) → stray-only-lts.Need-add-test-anno
   test-annotation-reads.Asked,
   test-annotation-reads.Learnt,
 ) (stray-only-at t) stray-only.Post
-stray-only-add-test-annotation t c = let w = (read.fits (now ((c .before .before .before .before .before .before .before .args) .b)) ((c .before .before .before .before .before .before .before .args) .at) ((c .before .before .before .before .before .before .before .args) .end) ((c .before .before .before .h) .given .0 .0) ((c .before .before .before .h) .given .0 .1 .0) ((c .before .before .before .h) .given .0 .1 .1 .0) ((c .before .before .before .before .before .before .before .pre) .1 .1) (sym ((c .before .before .before .h) .given .1) ∙ (c .before .before .before .before .before .field-at) .ensures)) in omega (arith, (c .before .before .before .before .before .before .before .pre), w, (c .before .before .before .before .before .before .before .good))
+stray-only-add-test-annotation t c =
+    let the-args = c .before .before .before .before .before .before .before .args in
+    let the-h = c .before .before .before .h in
+    let the-pre = c .before .before .before .before .before .before .before .pre in
+    let the-field-at = c .before .before .before .before .before .field-at in
+    let the-good = c .before .before .before .before .before .before .before .good in
+    let w = (read.fits (now (the-args .b)) (the-args .at) (the-args .end) (the-h .given .0 .0) (the-h .given .0 .1 .0) (the-h .given .0 .1 .1 .0) (the-pre .1 .1) (sym (the-h .given .1) ∙ the-field-at .ensures)) in omega (arith, the-pre, w, the-good)
 
--- src/lib.rt:120:21
 stray-only-test-annotation-requires : (t : ℕ) → stray-only-lts.Need-test-annotation-requires (
   field-at-reads.Asked,
   field-at-reads.Learnt,
@@ -254,9 +291,13 @@ stray-only-test-annotation-requires : (t : ℕ) → stray-only-lts.Need-test-ann
   test-annotation-reads.Asked,
   test-annotation-reads.Learnt,
 ) (stray-only-at t) stray-only.Post
-stray-only-test-annotation-requires t c κs = let w = (read.fits (now ((c .before .before .before .before .before .before .before .args) .b)) ((c .before .before .before .before .before .before .before .args) .at) ((c .before .before .before .before .before .before .before .args) .end) ((c .before .before .before .h) .given .0 .0) ((c .before .before .before .h) .given .0 .1 .0) ((c .before .before .before .h) .given .0 .1 .1 .0) ((c .before .before .before .before .before .before .before .pre) .1 .1) (sym ((c .before .before .before .h) .given .1) ∙ (c .before .before .before .before .before .field-at) .ensures)) in omega (arith, (c .before .before .before .before .before .before .before .pre), w)
+stray-only-test-annotation-requires t c κs =
+    let the-args = c .before .before .before .before .before .before .before .args in
+    let the-h = c .before .before .before .h in
+    let the-pre = c .before .before .before .before .before .before .before .pre in
+    let the-field-at = c .before .before .before .before .before .field-at in
+    let w = (read.fits (now (the-args .b)) (the-args .at) (the-args .end) (the-h .given .0 .0) (the-h .given .0 .1 .0) (the-h .given .0 .1 .1 .0) (the-pre .1 .1) (sym (the-h .given .1) ∙ the-field-at .ensures)) in omega (arith, the-pre, w)
 
--- src/lib.rt:121:55
 stray-only-add-result : (t : ℕ) → stray-only-lts.Need-add-result (
   field-at-reads.Asked,
   field-at-reads.Learnt,
@@ -265,9 +306,14 @@ stray-only-add-result : (t : ℕ) → stray-only-lts.Need-add-result (
   test-annotation-reads.Asked,
   test-annotation-reads.Learnt,
 ) (stray-only-at t) stray-only.Post
-stray-only-add-result t c = let w = (read.fits (now ((c .before .before .before .before .before .before .before .before .before .args) .b)) ((c .before .before .before .before .before .before .before .before .before .args) .at) ((c .before .before .before .before .before .before .before .before .before .args) .end) ((c .before .before .before .before .before .h) .given .0 .0) ((c .before .before .before .before .before .h) .given .0 .1 .0) ((c .before .before .before .before .before .h) .given .0 .1 .1 .0) ((c .before .before .before .before .before .before .before .before .before .pre) .1 .1) (sym ((c .before .before .before .before .before .h) .given .1) ∙ (c .before .before .before .before .before .before .before .field-at) .ensures)) in omega (arith, (c .before .before .before .before .before .before .before .before .before .pre), w, (c .before .before .before .before .before .before .before .before .before .good))
+stray-only-add-result t c =
+    let the-args = c .before .before .before .before .before .before .before .before .before .args in
+    let the-h = c .before .before .before .before .before .h in
+    let the-pre = c .before .before .before .before .before .before .before .before .before .pre in
+    let the-field-at = c .before .before .before .before .before .before .before .field-at in
+    let the-good = c .before .before .before .before .before .before .before .before .before .good in
+    let w = (read.fits (now (the-args .b)) (the-args .at) (the-args .end) (the-h .given .0 .0) (the-h .given .0 .1 .0) (the-h .given .0 .1 .1 .0) (the-pre .1 .1) (sym (the-h .given .1) ∙ the-field-at .ensures)) in omega (arith, the-pre, w, the-good)
 
--- src/lib.rt:108:1
 stray-only-returns : (t : ℕ) → stray-only-lts.Need-returns (
   field-at-reads.Asked,
   field-at-reads.Learnt,
@@ -276,9 +322,11 @@ stray-only-returns : (t : ℕ) → stray-only-lts.Need-returns (
   test-annotation-reads.Asked,
   test-annotation-reads.Learnt,
 ) (stray-only-at t) stray-only.Post
-stray-only-returns t c = laws.stray-only-unfit (now ((c .before .before .before .before .args) .b)) ((c .before .before .before .before .args) .at) ((c .before .before .before .before .args) .end) ((c .before .before .before .before .args) .outer) ((c .before .before .before .before .args) .holder) (sym ((c .enum-told) .given .1) ∙ (c .before .before .field-at) .ensures)
+stray-only-returns t c =
+    let the-args = c .before .before .before .before .args in
+    let the-field-at = c .before .before .field-at in
+    laws.stray-only-unfit (now (the-args .b)) (the-args .at) (the-args .end) (the-args .outer) (the-args .holder) (sym ((c .enum-told) .given .1) ∙ the-field-at .ensures)
 
--- src/lib.rt:108:1
 stray-only-returns-2 : (t : ℕ) → stray-only-lts.Need-returns-2 (
   field-at-reads.Asked,
   field-at-reads.Learnt,
@@ -287,9 +335,12 @@ stray-only-returns-2 : (t : ℕ) → stray-only-lts.Need-returns-2 (
   test-annotation-reads.Asked,
   test-annotation-reads.Learnt,
 ) (stray-only-at t) stray-only.Post
-stray-only-returns-2 t c = laws.short-test ((now ((c .before .before .before .before .before .before .before .args) .b))) ((c .before .before .before .before .before .before .before .args) .at) ((c .before .before .before .before .before .before .before .args) .end) (sym ((c .before .before .before .h) .given .1) ∙ (c .before .before .before .before .before .field-at) .ensures) ((c .before .before .before .before .before .before .before .args) .outer) ((c .before .before .before .before .before .before .before .args) .holder) ((c .if1) .taken)
+stray-only-returns-2 t c =
+    let the-args = c .before .before .before .before .before .before .before .args in
+    let the-h = c .before .before .before .h in
+    let the-field-at = c .before .before .before .before .before .field-at in
+    laws.short-test ((now (the-args .b))) (the-args .at) (the-args .end) (sym (the-h .given .1) ∙ the-field-at .ensures) (the-args .outer) (the-args .holder) ((c .if1) .taken)
 
--- src/lib.rt:108:1
 stray-only-returns-3 : (t : ℕ) → stray-only-lts.Need-returns-3 (
   field-at-reads.Asked,
   field-at-reads.Learnt,
@@ -298,9 +349,14 @@ stray-only-returns-3 : (t : ℕ) → stray-only-lts.Need-returns-3 (
   test-annotation-reads.Asked,
   test-annotation-reads.Learnt,
 ) (stray-only-at t) stray-only.Post
-stray-only-returns-3 t c = laws.no-stray ((now ((c .before .before .before .before .before .before .before .before .before .args) .b))) ((c .before .before .before .before .before .before .before .before .before .args) .at) ((c .before .before .before .before .before .before .before .before .before .args) .end) (sym ((c .before .before .before .before .before .h) .given .1) ∙ (c .before .before .before .before .before .before .before .field-at) .ensures) ((c .before .before .before .before .before .before .before .before .before .args) .outer) ((c .before .before .before .before .before .before .before .before .before .args) .holder) ((c .before .before .before .stray-in) .ensures) ((c .before .test-annotation) .ensures) ((c .if2) .taken)
+stray-only-returns-3 t c =
+    let the-args = c .before .before .before .before .before .before .before .before .before .args in
+    let the-h = c .before .before .before .before .before .h in
+    let the-field-at = c .before .before .before .before .before .before .before .field-at in
+    let the-stray-in = c .before .before .before .stray-in in
+    let the-test-annotation = c .before .test-annotation in
+    laws.no-stray ((now (the-args .b))) (the-args .at) (the-args .end) (sym (the-h .given .1) ∙ the-field-at .ensures) (the-args .outer) (the-args .holder) (the-stray-in .ensures) (the-test-annotation .ensures) ((c .if2) .taken)
 
--- src/lib.rt:108:1
 stray-only-returns-4 : (t : ℕ) → stray-only-lts.Need-returns-4 (
   field-at-reads.Asked,
   field-at-reads.Learnt,
@@ -309,9 +365,13 @@ stray-only-returns-4 : (t : ℕ) → stray-only-lts.Need-returns-4 (
   test-annotation-reads.Asked,
   test-annotation-reads.Learnt,
 ) (stray-only-at t) stray-only.Post
-stray-only-returns-4 t c = laws.a-stray ((now ((c .before .before .before .before .before .before .before .before .before .args) .b))) ((c .before .before .before .before .before .before .before .before .before .args) .at) ((c .before .before .before .before .before .before .before .before .before .args) .end) (sym ((c .before .before .before .before .before .h) .given .1) ∙ (c .before .before .before .before .before .before .before .field-at) .ensures) ((c .before .before .before .before .before .before .before .before .before .args) .outer) ((c .before .before .before .before .before .before .before .before .before .args) .holder) ((c .before .test-annotation) .ensures) ((c .if2) .left)
+stray-only-returns-4 t c =
+    let the-args = c .before .before .before .before .before .before .before .before .before .args in
+    let the-h = c .before .before .before .before .before .h in
+    let the-field-at = c .before .before .before .before .before .before .before .field-at in
+    let the-test-annotation = c .before .test-annotation in
+    laws.a-stray ((now (the-args .b))) (the-args .at) (the-args .end) (sym (the-h .given .1) ∙ the-field-at .ensures) (the-args .outer) (the-args .holder) (the-test-annotation .ensures) ((c .if2) .left)
 
--- src/lib.rt:95:9
 stray-pair-field-at-requires : (t : ℕ) → stray-pair-lts.Need-field-at-requires (
   field-at-reads.Asked,
   field-at-reads.Learnt,
@@ -322,9 +382,10 @@ stray-pair-field-at-requires : (t : ℕ) → stray-pair-lts.Need-field-at-requir
   or-else-reads.Asked,
   or-else-reads.Learnt,
 ) (stray-pair-at t) stray-pair.Post
-stray-pair-field-at-requires t c κs = (c .before .pre) .1
+stray-pair-field-at-requires t c κs =
+    let the-pre = c .before .pre in
+    the-pre .1
 
--- src/lib.rt:97:24
 stray-pair-enum-told : (t : ℕ) → stray-pair-lts.Need-enum-told (
   field-at-reads.Asked,
   field-at-reads.Learnt,
@@ -337,7 +398,6 @@ stray-pair-enum-told : (t : ℕ) → stray-pair-lts.Need-enum-told (
 ) (stray-pair-at t) stray-pair.Post
 stray-pair-enum-told t c = (c .match) .keys1
 
--- src/lib.rt:98:23
 stray-pair-enum-known-h : (t : ℕ) → stray-pair-lts.Need-enum-known-h (
   field-at-reads.Asked,
   field-at-reads.Learnt,
@@ -350,7 +410,6 @@ stray-pair-enum-known-h : (t : ℕ) → stray-pair-lts.Need-enum-known-h (
 ) (stray-pair-at t) stray-pair.Post
 stray-pair-enum-known-h t c = (c .match) .keys2
 
--- src/lib.rt:99:17
 stray-pair-used-in-requires : (t : ℕ) → stray-pair-lts.Need-used-in-requires (
   field-at-reads.Asked,
   field-at-reads.Learnt,
@@ -361,9 +420,13 @@ stray-pair-used-in-requires : (t : ℕ) → stray-pair-lts.Need-used-in-requires
   or-else-reads.Asked,
   or-else-reads.Learnt,
 ) (stray-pair-at t) stray-pair.Post
-stray-pair-used-in-requires t c κs = let w = (read.fits (now ((c .before .before .before .before .before .args) .b)) ((c .before .before .before .before .before .args) .at) ((c .before .before .before .before .before .args) .end) ((c .before .h) .given .0 .0) ((c .before .h) .given .0 .1 .0) ((c .before .h) .given .0 .1 .1 .0) ((c .before .before .before .before .before .pre) .1 .0) (sym ((c .before .h) .given .1) ∙ (c .before .before .before .field-at) .ensures)) in omega (arith, (c .before .before .before .before .before .pre), w)
+stray-pair-used-in-requires t c κs =
+    let the-args = c .before .before .before .before .before .args in
+    let the-h = c .before .h in
+    let the-pre = c .before .before .before .before .before .pre in
+    let the-field-at = c .before .before .before .field-at in
+    let w = (read.fits (now (the-args .b)) (the-args .at) (the-args .end) (the-h .given .0 .0) (the-h .given .0 .1 .0) (the-h .given .0 .1 .1 .0) (the-pre .1 .0) (sym (the-h .given .1) ∙ the-field-at .ensures)) in omega (arith, the-pre, w)
 
--- src/lib.rt:100:17
 stray-pair-used-in-requires-2 : (t : ℕ) → stray-pair-lts.Need-used-in-requires-2 (
   field-at-reads.Asked,
   field-at-reads.Learnt,
@@ -374,9 +437,13 @@ stray-pair-used-in-requires-2 : (t : ℕ) → stray-pair-lts.Need-used-in-requir
   or-else-reads.Asked,
   or-else-reads.Learnt,
 ) (stray-pair-at t) stray-pair.Post
-stray-pair-used-in-requires-2 t c κs = let w = (read.fits (now ((c .before .before .before .before .before .before .args) .b)) ((c .before .before .before .before .before .before .args) .at) ((c .before .before .before .before .before .before .args) .end) ((c .before .before .h) .given .0 .0) ((c .before .before .h) .given .0 .1 .0) ((c .before .before .h) .given .0 .1 .1 .0) ((c .before .before .before .before .before .before .pre) .1 .0) (sym ((c .before .before .h) .given .1) ∙ (c .before .before .before .before .field-at) .ensures)) in omega (arith, (c .before .before .before .before .before .before .pre), w)
+stray-pair-used-in-requires-2 t c κs =
+    let the-args = c .before .before .before .before .before .before .args in
+    let the-h = c .before .before .h in
+    let the-pre = c .before .before .before .before .before .before .pre in
+    let the-field-at = c .before .before .before .before .field-at in
+    let w = (read.fits (now (the-args .b)) (the-args .at) (the-args .end) (the-h .given .0 .0) (the-h .given .0 .1 .0) (the-h .given .0 .1 .1 .0) (the-pre .1 .0) (sym (the-h .given .1) ∙ the-field-at .ensures)) in omega (arith, the-pre, w)
 
--- src/lib.rt:101:17
 stray-pair-stray-in-requires : (t : ℕ) → stray-pair-lts.Need-stray-in-requires (
   field-at-reads.Asked,
   field-at-reads.Learnt,
@@ -387,9 +454,13 @@ stray-pair-stray-in-requires : (t : ℕ) → stray-pair-lts.Need-stray-in-requir
   or-else-reads.Asked,
   or-else-reads.Learnt,
 ) (stray-pair-at t) stray-pair.Post
-stray-pair-stray-in-requires t c κs = let w = (read.fits (now ((c .before .before .before .before .before .before .before .args) .b)) ((c .before .before .before .before .before .before .before .args) .at) ((c .before .before .before .before .before .before .before .args) .end) ((c .before .before .before .h) .given .0 .0) ((c .before .before .before .h) .given .0 .1 .0) ((c .before .before .before .h) .given .0 .1 .1 .0) ((c .before .before .before .before .before .before .before .pre) .1 .0) (sym ((c .before .before .before .h) .given .1) ∙ (c .before .before .before .before .before .field-at) .ensures)) in omega (arith, (c .before .before .before .before .before .before .before .pre), w)
+stray-pair-stray-in-requires t c κs =
+    let the-args = c .before .before .before .before .before .before .before .args in
+    let the-h = c .before .before .before .h in
+    let the-pre = c .before .before .before .before .before .before .before .pre in
+    let the-field-at = c .before .before .before .before .before .field-at in
+    let w = (read.fits (now (the-args .b)) (the-args .at) (the-args .end) (the-h .given .0 .0) (the-h .given .0 .1 .0) (the-h .given .0 .1 .1 .0) (the-pre .1 .0) (sym (the-h .given .1) ∙ the-field-at .ensures)) in omega (arith, the-pre, w)
 
--- src/lib.rt:102:17
 stray-pair-stray-in-requires-2 : (t : ℕ) → stray-pair-lts.Need-stray-in-requires-2 (
   field-at-reads.Asked,
   field-at-reads.Learnt,
@@ -400,9 +471,13 @@ stray-pair-stray-in-requires-2 : (t : ℕ) → stray-pair-lts.Need-stray-in-requ
   or-else-reads.Asked,
   or-else-reads.Learnt,
 ) (stray-pair-at t) stray-pair.Post
-stray-pair-stray-in-requires-2 t c κs = let w = (read.fits (now ((c .before .before .before .before .before .before .before .before .args) .b)) ((c .before .before .before .before .before .before .before .before .args) .at) ((c .before .before .before .before .before .before .before .before .args) .end) ((c .before .before .before .before .h) .given .0 .0) ((c .before .before .before .before .h) .given .0 .1 .0) ((c .before .before .before .before .h) .given .0 .1 .1 .0) ((c .before .before .before .before .before .before .before .before .pre) .1 .0) (sym ((c .before .before .before .before .h) .given .1) ∙ (c .before .before .before .before .before .before .field-at) .ensures)) in omega (arith, (c .before .before .before .before .before .before .before .before .pre), w)
+stray-pair-stray-in-requires-2 t c κs =
+    let the-args = c .before .before .before .before .before .before .before .before .args in
+    let the-h = c .before .before .before .before .h in
+    let the-pre = c .before .before .before .before .before .before .before .before .pre in
+    let the-field-at = c .before .before .before .before .before .before .field-at in
+    let w = (read.fits (now (the-args .b)) (the-args .at) (the-args .end) (the-h .given .0 .0) (the-h .given .0 .1 .0) (the-h .given .0 .1 .1 .0) (the-pre .1 .0) (sym (the-h .given .1) ∙ the-field-at .ensures)) in omega (arith, the-pre, w)
 
--- src/lib.rt:103:13
 stray-pair-or-else-requires : (t : ℕ) → stray-pair-lts.Need-or-else-requires (
   field-at-reads.Asked,
   field-at-reads.Learnt,
@@ -415,7 +490,6 @@ stray-pair-or-else-requires : (t : ℕ) → stray-pair-lts.Need-or-else-requires
 ) (stray-pair-at t) stray-pair.Post
 stray-pair-or-else-requires t c κs = search needs
 
--- src/lib.rt:91:1
 stray-pair-returns : (t : ℕ) → stray-pair-lts.Need-returns (
   field-at-reads.Asked,
   field-at-reads.Learnt,
@@ -426,9 +500,11 @@ stray-pair-returns : (t : ℕ) → stray-pair-lts.Need-returns (
   or-else-reads.Asked,
   or-else-reads.Learnt,
 ) (stray-pair-at t) stray-pair.Post
-stray-pair-returns t c = laws.stray-pair-unfit (now ((c .before .before .before .before .args) .b)) ((c .before .before .before .before .args) .at) ((c .before .before .before .before .args) .end) ((c .before .before .before .before .args) .outer) (sym ((c .enum-told) .given .1) ∙ (c .before .before .field-at) .ensures)
+stray-pair-returns t c =
+    let the-args = c .before .before .before .before .args in
+    let the-field-at = c .before .before .field-at in
+    laws.stray-pair-unfit (now (the-args .b)) (the-args .at) (the-args .end) (the-args .outer) (sym ((c .enum-told) .given .1) ∙ the-field-at .ensures)
 
--- src/lib.rt:91:1
 stray-pair-returns-2 : (t : ℕ) → stray-pair-lts.Need-returns-2 (
   field-at-reads.Asked,
   field-at-reads.Learnt,
@@ -439,7 +515,15 @@ stray-pair-returns-2 : (t : ℕ) → stray-pair-lts.Need-returns-2 (
   or-else-reads.Asked,
   or-else-reads.Learnt,
 ) (stray-pair-at t) stray-pair.Post
-stray-pair-returns-2 t c = laws.stray-two ((now ((c .before .before .before .before .before .before .before .before .before .before .args) .b))) ((c .before .before .before .before .before .before .before .before .before .before .args) .at) ((c .before .before .before .before .before .before .before .before .before .before .args) .end) (sym ((c .before .before .before .before .before .before .h) .given .1) ∙ (c .before .before .before .before .before .before .before .before .field-at) .ensures) ((c .before .before .before .before .before .before .before .before .before .before .args) .outer) ((c .before .before .before .before .used-in) .ensures) ((c .before .before .before .used-in2) .ensures) ((c .before .before .stray-in) .ensures) ((c .before .stray-in2) .ensures) ((c .or-else) .ensures)
+stray-pair-returns-2 t c =
+    let the-args = c .before .before .before .before .before .before .before .before .before .before .args in
+    let the-h = c .before .before .before .before .before .before .h in
+    let the-field-at = c .before .before .before .before .before .before .before .before .field-at in
+    let the-used-in = c .before .before .before .before .used-in in
+    let the-used-in2 = c .before .before .before .used-in2 in
+    let the-stray-in = c .before .before .stray-in in
+    let the-stray-in2 = c .before .stray-in2 in
+    laws.stray-two ((now (the-args .b))) (the-args .at) (the-args .end) (sym (the-h .given .1) ∙ the-field-at .ensures) (the-args .outer) (the-used-in .ensures) (the-used-in2 .ensures) (the-stray-in .ensures) (the-stray-in2 .ensures) ((c .or-else) .ensures)
 
 pub +stray-in+stray-only+stray-pair-spec : {M : Type 1} → statement M
 +stray-in+stray-only+stray-pair-spec =

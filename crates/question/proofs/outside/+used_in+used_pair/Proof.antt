@@ -1,13 +1,11 @@
-use borrow.Author.Tests.{eq-eqb, ne-eqb}
-use mathlib.Core.Path.{_≡_, refl, sym, ap, _∙_}
+-- By the tag at the place: a law of `Second` for each kind of part that the bytes can hold there.
+use mathlib.Core.Path.{sym, _∙_}
 use native.Mathlib.Omega.{arith}
-use borrow.Author.Needs.{needs}
 use Prim.Native.Nat.{ℕ, _+_, _-_}
 use denote.Ref.{now}
 use Rattle.question.proofs.Laws as read
-use Rattle.question.specs.Format.{patternAt, testAt}
 use Rattle.question.proofs.Second as laws
-use Prim.Native.Nat.{ℕ, _<_}
+use Prim.Native.Nat.{_<_}
 use borrow.Fn.Kinds.{In}
 use borrow.Fn.PlainCycle.{Measures, is, falls, and}
 use Rattle.question.proofs.outside.used_in.Reads as used-in
@@ -40,7 +38,6 @@ abbrev used-pair-below : ℕ → In 1 used-pair-kinds.ps
 used-pair-below t =
     and 1 used-pair-kinds.ps (falls 1 used-pair-kinds.ps _<_ μ-used-pair t) used-pair.Pre
 
--- src/lib.rt:37:9
 used-in-field-at-requires : (t : ℕ) → used-in-lts.Need-field-at-requires (
   field-at-reads.Asked,
   field-at-reads.Learnt,
@@ -51,9 +48,10 @@ used-in-field-at-requires : (t : ℕ) → used-in-lts.Need-field-at-requires (
   used-in-below t,
   used-in.Post,
 ) (used-in-at t) used-in.Post
-used-in-field-at-requires t c κs = (c .before .pre) .1
+used-in-field-at-requires t c κs =
+    let the-pre = c .before .pre in
+    the-pre .1
 
--- src/lib.rt:39:24
 used-in-enum-told : (t : ℕ) → used-in-lts.Need-enum-told (
   field-at-reads.Asked,
   field-at-reads.Learnt,
@@ -66,7 +64,6 @@ used-in-enum-told : (t : ℕ) → used-in-lts.Need-enum-told (
 ) (used-in-at t) used-in.Post
 used-in-enum-told t c = (c .match) .keys1
 
--- src/lib.rt:40:23
 used-in-enum-known-h : (t : ℕ) → used-in-lts.Need-enum-known-h (
   field-at-reads.Asked,
   field-at-reads.Learnt,
@@ -79,7 +76,6 @@ used-in-enum-known-h : (t : ℕ) → used-in-lts.Need-enum-known-h (
 ) (used-in-at t) used-in.Post
 used-in-enum-known-h t c = (c .match) .keys2
 
--- src/lib.rt:42:20
 used-in-sub-if2 : (t : ℕ) → used-in-lts.Need-sub-if2 (
   field-at-reads.Asked,
   field-at-reads.Learnt,
@@ -90,9 +86,13 @@ used-in-sub-if2 : (t : ℕ) → used-in-lts.Need-sub-if2 (
   used-in-below t,
   used-in.Post,
 ) (used-in-at t) used-in.Post
-used-in-sub-if2 t c = let w = (read.fits (now ((c .before .before .before .before .before .before .args) .b)) ((c .before .before .before .before .before .before .args) .at) ((c .before .before .before .before .before .before .args) .end) ((c .before .before .h) .given .0 .0) ((c .before .before .h) .given .0 .1 .0) ((c .before .before .h) .given .0 .1 .1 .0) ((c .before .before .before .before .before .before .pre) .1 .0) (sym ((c .before .before .h) .given .1) ∙ (c .before .before .before .before .field-at) .ensures)) in omega (arith, (c .before .before .before .before .before .before .pre), w)
+used-in-sub-if2 t c =
+    let the-args = c .before .before .before .before .before .before .args in
+    let the-h = c .before .before .h in
+    let the-pre = c .before .before .before .before .before .before .pre in
+    let the-field-at = c .before .before .before .before .field-at in
+    let w = (read.fits (now (the-args .b)) (the-args .at) (the-args .end) (the-h .given .0 .0) (the-h .given .0 .1 .0) (the-h .given .0 .1 .1 .0) (the-pre .1 .0) (sym (the-h .given .1) ∙ the-field-at .ensures)) in omega (arith, the-pre, w)
 
--- src/lib.rt:42:38
 used-in-triple-annotation-requires : (t : ℕ) → used-in-lts.Need-triple-annotation-requires (
   field-at-reads.Asked,
   field-at-reads.Learnt,
@@ -103,9 +103,13 @@ used-in-triple-annotation-requires : (t : ℕ) → used-in-lts.Need-triple-annot
   used-in-below t,
   used-in.Post,
 ) (used-in-at t) used-in.Post
-used-in-triple-annotation-requires t c κs = let w = (read.fits (now ((c .before .before .before .before .before .before .before .args) .b)) ((c .before .before .before .before .before .before .before .args) .at) ((c .before .before .before .before .before .before .before .args) .end) ((c .before .before .before .h) .given .0 .0) ((c .before .before .before .h) .given .0 .1 .0) ((c .before .before .before .h) .given .0 .1 .1 .0) ((c .before .before .before .before .before .before .before .pre) .1 .0) (sym ((c .before .before .before .h) .given .1) ∙ (c .before .before .before .before .before .field-at) .ensures)) in omega (arith, (c .before .before .before .before .before .before .before .pre), w)
+used-in-triple-annotation-requires t c κs =
+    let the-args = c .before .before .before .before .before .before .before .args in
+    let the-h = c .before .before .before .h in
+    let the-pre = c .before .before .before .before .before .before .before .pre in
+    let the-field-at = c .before .before .before .before .before .field-at in
+    let w = (read.fits (now (the-args .b)) (the-args .at) (the-args .end) (the-h .given .0 .0) (the-h .given .0 .1 .0) (the-h .given .0 .1 .1 .0) (the-pre .1 .0) (sym (the-h .given .1) ∙ the-field-at .ensures)) in omega (arith, the-pre, w)
 
--- src/lib.rt:44:17
 used-in-used-pair-requires : (t : ℕ) → used-in-lts.Need-used-pair-requires (
   field-at-reads.Asked,
   field-at-reads.Learnt,
@@ -116,9 +120,13 @@ used-in-used-pair-requires : (t : ℕ) → used-in-lts.Need-used-pair-requires (
   used-in-below t,
   used-in.Post,
 ) (used-in-at t) used-in.Post
-used-in-used-pair-requires t c κs = let w = (read.fits (now ((c .before .before .before .before .before .before .before .args) .b)) ((c .before .before .before .before .before .before .before .args) .at) ((c .before .before .before .before .before .before .before .args) .end) ((c .before .before .before .h) .given .0 .0) ((c .before .before .before .h) .given .0 .1 .0) ((c .before .before .before .h) .given .0 .1 .1 .0) ((c .before .before .before .before .before .before .before .pre) .1 .0) (sym ((c .before .before .before .h) .given .1) ∙ (c .before .before .before .before .before .field-at) .ensures)) in omega (arith, (c .before .before .before .before .before .before .before .pre), w)
+used-in-used-pair-requires t c κs =
+    let the-args = c .before .before .before .before .before .before .before .args in
+    let the-h = c .before .before .before .h in
+    let the-pre = c .before .before .before .before .before .before .before .pre in
+    let the-field-at = c .before .before .before .before .before .field-at in
+    let w = (read.fits (now (the-args .b)) (the-args .at) (the-args .end) (the-h .given .0 .0) (the-h .given .0 .1 .0) (the-h .given .0 .1 .1 .0) (the-pre .1 .0) (sym (the-h .given .1) ∙ the-field-at .ensures)) in omega (arith, the-pre, w)
 
--- src/lib.rt:46:17
 used-in-used-pair-requires-2 : (t : ℕ) → used-in-lts.Need-used-pair-requires-2 (
   field-at-reads.Asked,
   field-at-reads.Learnt,
@@ -129,9 +137,13 @@ used-in-used-pair-requires-2 : (t : ℕ) → used-in-lts.Need-used-pair-requires
   used-in-below t,
   used-in.Post,
 ) (used-in-at t) used-in.Post
-used-in-used-pair-requires-2 t c κs = let w = (read.fits (now ((c .before .before .before .before .before .before .before .before .args) .b)) ((c .before .before .before .before .before .before .before .before .args) .at) ((c .before .before .before .before .before .before .before .before .args) .end) ((c .before .before .before .before .h) .given .0 .0) ((c .before .before .before .before .h) .given .0 .1 .0) ((c .before .before .before .before .h) .given .0 .1 .1 .0) ((c .before .before .before .before .before .before .before .before .pre) .1 .0) (sym ((c .before .before .before .before .h) .given .1) ∙ (c .before .before .before .before .before .before .field-at) .ensures)) in omega (arith, (c .before .before .before .before .before .before .before .before .pre), w)
+used-in-used-pair-requires-2 t c κs =
+    let the-args = c .before .before .before .before .before .before .before .before .args in
+    let the-h = c .before .before .before .before .h in
+    let the-pre = c .before .before .before .before .before .before .before .before .pre in
+    let the-field-at = c .before .before .before .before .before .before .field-at in
+    let w = (read.fits (now (the-args .b)) (the-args .at) (the-args .end) (the-h .given .0 .0) (the-h .given .0 .1 .0) (the-h .given .0 .1 .1 .0) (the-pre .1 .0) (sym (the-h .given .1) ∙ the-field-at .ensures)) in omega (arith, the-pre, w)
 
--- src/lib.rt:48:17
 used-in-used-in-requires : (t : ℕ) → used-in-lts.Need-used-in-requires (
   field-at-reads.Asked,
   field-at-reads.Learnt,
@@ -142,9 +154,13 @@ used-in-used-in-requires : (t : ℕ) → used-in-lts.Need-used-in-requires (
   used-in-below t,
   used-in.Post,
 ) (used-in-at t) used-in.Post
-used-in-used-in-requires t c κs = let w = (read.fits (now ((c .before .before .before .before .before .before .before .before .args) .b)) ((c .before .before .before .before .before .before .before .before .args) .at) ((c .before .before .before .before .before .before .before .before .args) .end) ((c .before .before .before .before .h) .given .0 .0) ((c .before .before .before .before .h) .given .0 .1 .0) ((c .before .before .before .before .h) .given .0 .1 .1 .0) ((c .before .before .before .before .before .before .before .before .pre) .1 .0) (sym ((c .before .before .before .before .h) .given .1) ∙ (c .before .before .before .before .before .before .field-at) .ensures)) in omega (arith, (c .before .before .before .before .before .before .before .before .pre), w)
+used-in-used-in-requires t c κs =
+    let the-args = c .before .before .before .before .before .before .before .before .args in
+    let the-h = c .before .before .before .before .h in
+    let the-pre = c .before .before .before .before .before .before .before .before .pre in
+    let the-field-at = c .before .before .before .before .before .before .field-at in
+    let w = (read.fits (now (the-args .b)) (the-args .at) (the-args .end) (the-h .given .0 .0) (the-h .given .0 .1 .0) (the-h .given .0 .1 .1 .0) (the-pre .1 .0) (sym (the-h .given .1) ∙ the-field-at .ensures)) in omega (arith, the-pre, w)
 
--- src/lib.rt:33:1
 used-in-returns : (t : ℕ) → used-in-lts.Need-returns (
   field-at-reads.Asked,
   field-at-reads.Learnt,
@@ -155,9 +171,11 @@ used-in-returns : (t : ℕ) → used-in-lts.Need-returns (
   used-in-below t,
   used-in.Post,
 ) (used-in-at t) used-in.Post
-used-in-returns t c = laws.used-unfit (now ((c .before .before .before .before .args) .b)) ((c .before .before .before .before .args) .at) ((c .before .before .before .before .args) .end) (sym ((c .enum-told) .given .1) ∙ (c .before .before .field-at) .ensures)
+used-in-returns t c =
+    let the-args = c .before .before .before .before .args in
+    let the-field-at = c .before .before .field-at in
+    laws.used-unfit (now (the-args .b)) (the-args .at) (the-args .end) (sym ((c .enum-told) .given .1) ∙ the-field-at .ensures)
 
--- src/lib.rt:33:1
 used-in-returns-2 : (t : ℕ) → used-in-lts.Need-returns-2 (
   field-at-reads.Asked,
   field-at-reads.Learnt,
@@ -168,9 +186,13 @@ used-in-returns-2 : (t : ℕ) → used-in-lts.Need-returns-2 (
   used-in-below t,
   used-in.Post,
 ) (used-in-at t) used-in.Post
-used-in-returns-2 t c = laws.used-triple ((now ((c .before .before .before .before .before .before .before .before .args) .b))) ((c .before .before .before .before .before .before .before .before .args) .at) ((c .before .before .before .before .before .before .before .before .args) .end) (sym ((c .before .before .before .before .h) .given .1) ∙ (c .before .before .before .before .before .before .field-at) .ensures) ((c .before .before .if1) .taken) ((c .triple-annotation) .ensures)
+used-in-returns-2 t c =
+    let the-args = c .before .before .before .before .before .before .before .before .args in
+    let the-h = c .before .before .before .before .h in
+    let the-field-at = c .before .before .before .before .before .before .field-at in
+    let the-if1 = c .before .before .if1 in
+    laws.used-triple ((now (the-args .b))) (the-args .at) (the-args .end) (sym (the-h .given .1) ∙ the-field-at .ensures) (the-if1 .taken) ((c .triple-annotation) .ensures)
 
--- src/lib.rt:33:1
 used-in-returns-3 : (t : ℕ) → used-in-lts.Need-returns-3 (
   field-at-reads.Asked,
   field-at-reads.Learnt,
@@ -181,9 +203,13 @@ used-in-returns-3 : (t : ℕ) → used-in-lts.Need-returns-3 (
   used-in-below t,
   used-in.Post,
 ) (used-in-at t) used-in.Post
-used-in-returns-3 t c = laws.used-short ((now ((c .before .before .before .before .before .before .before .args) .b))) ((c .before .before .before .before .before .before .before .args) .at) ((c .before .before .before .before .before .before .before .args) .end) (sym ((c .before .before .before .h) .given .1) ∙ (c .before .before .before .before .before .field-at) .ensures) ((c .before .if1) .taken) ((c .if2) .left)
+used-in-returns-3 t c =
+    let the-args = c .before .before .before .before .before .before .before .args in
+    let the-h = c .before .before .before .h in
+    let the-field-at = c .before .before .before .before .before .field-at in
+    let the-if1 = c .before .if1 in
+    laws.used-short ((now (the-args .b))) (the-args .at) (the-args .end) (sym (the-h .given .1) ∙ the-field-at .ensures) (the-if1 .taken) ((c .if2) .left)
 
--- src/lib.rt:33:1
 used-in-returns-4 : (t : ℕ) → used-in-lts.Need-returns-4 (
   field-at-reads.Asked,
   field-at-reads.Learnt,
@@ -194,9 +220,13 @@ used-in-returns-4 : (t : ℕ) → used-in-lts.Need-returns-4 (
   used-in-below t,
   used-in.Post,
 ) (used-in-at t) used-in.Post
-used-in-returns-4 t c = laws.used-both ((now ((c .before .before .before .before .before .before .before .before .args) .b))) ((c .before .before .before .before .before .before .before .before .args) .at) ((c .before .before .before .before .before .before .before .before .args) .end) (sym ((c .before .before .before .before .h) .given .1) ∙ (c .before .before .before .before .before .before .field-at) .ensures) ((c .before .if3) .taken) ((c .used-pair) .ensures)
+used-in-returns-4 t c =
+    let the-args = c .before .before .before .before .before .before .before .before .args in
+    let the-h = c .before .before .before .before .h in
+    let the-field-at = c .before .before .before .before .before .before .field-at in
+    let the-if3 = c .before .if3 in
+    laws.used-both ((now (the-args .b))) (the-args .at) (the-args .end) (sym (the-h .given .1) ∙ the-field-at .ensures) (the-if3 .taken) ((c .used-pair) .ensures)
 
--- src/lib.rt:33:1
 used-in-returns-5 : (t : ℕ) → used-in-lts.Need-returns-5 (
   field-at-reads.Asked,
   field-at-reads.Learnt,
@@ -207,9 +237,13 @@ used-in-returns-5 : (t : ℕ) → used-in-lts.Need-returns-5 (
   used-in-below t,
   used-in.Post,
 ) (used-in-at t) used-in.Post
-used-in-returns-5 t c = laws.used-either ((now ((c .before .before .before .before .before .before .before .before .before .args) .b))) ((c .before .before .before .before .before .before .before .before .before .args) .at) ((c .before .before .before .before .before .before .before .before .before .args) .end) (sym ((c .before .before .before .before .before .h) .given .1) ∙ (c .before .before .before .before .before .before .before .field-at) .ensures) ((c .before .if4) .taken) ((c .used-pair2) .ensures)
+used-in-returns-5 t c =
+    let the-args = c .before .before .before .before .before .before .before .before .before .args in
+    let the-h = c .before .before .before .before .before .h in
+    let the-field-at = c .before .before .before .before .before .before .before .field-at in
+    let the-if4 = c .before .if4 in
+    laws.used-either ((now (the-args .b))) (the-args .at) (the-args .end) (sym (the-h .given .1) ∙ the-field-at .ensures) (the-if4 .taken) ((c .used-pair2) .ensures)
 
--- src/lib.rt:33:1
 used-in-returns-6 : (t : ℕ) → used-in-lts.Need-returns-6 (
   field-at-reads.Asked,
   field-at-reads.Learnt,
@@ -220,18 +254,25 @@ used-in-returns-6 : (t : ℕ) → used-in-lts.Need-returns-6 (
   used-in-below t,
   used-in.Post,
 ) (used-in-at t) used-in.Post
-used-in-returns-6 t c = laws.used-only ((now ((c .before .before .before .before .before .before .before .before .before .args) .b))) ((c .before .before .before .before .before .before .before .before .before .args) .at) ((c .before .before .before .before .before .before .before .before .before .args) .end) (sym ((c .before .before .before .before .before .h) .given .1) ∙ (c .before .before .before .before .before .before .before .field-at) .ensures) ((c .before .before .before .if1) .left) ((c .before .before .if3) .left) ((c .before .if4) .left) ((c .used-in) .ensures)
+used-in-returns-6 t c =
+    let the-args = c .before .before .before .before .before .before .before .before .before .args in
+    let the-h = c .before .before .before .before .before .h in
+    let the-field-at = c .before .before .before .before .before .before .before .field-at in
+    let the-if1 = c .before .before .before .if1 in
+    let the-if3 = c .before .before .if3 in
+    let the-if4 = c .before .if4 in
+    laws.used-only ((now (the-args .b))) (the-args .at) (the-args .end) (sym (the-h .given .1) ∙ the-field-at .ensures) (the-if1 .left) (the-if3 .left) (the-if4 .left) ((c .used-in) .ensures)
 
--- src/lib.rt:58:9
 used-pair-field-at-requires : (t : ℕ) → used-pair-lts.Need-field-at-requires (
   field-at-reads.Asked,
   field-at-reads.Learnt,
   used-in-below t,
   used-in.Post,
 ) (used-pair-at t) used-pair.Post
-used-pair-field-at-requires t c κs = (c .before .pre) .1
+used-pair-field-at-requires t c κs =
+    let the-pre = c .before .pre in
+    the-pre .1
 
--- src/lib.rt:60:24
 used-pair-enum-told : (t : ℕ) → used-pair-lts.Need-enum-told (
   field-at-reads.Asked,
   field-at-reads.Learnt,
@@ -240,7 +281,6 @@ used-pair-enum-told : (t : ℕ) → used-pair-lts.Need-enum-told (
 ) (used-pair-at t) used-pair.Post
 used-pair-enum-told t c = (c .match) .keys1
 
--- src/lib.rt:61:23
 used-pair-enum-known-h : (t : ℕ) → used-pair-lts.Need-enum-known-h (
   field-at-reads.Asked,
   field-at-reads.Learnt,
@@ -249,41 +289,55 @@ used-pair-enum-known-h : (t : ℕ) → used-pair-lts.Need-enum-known-h (
 ) (used-pair-at t) used-pair.Post
 used-pair-enum-known-h t c = (c .match) .keys2
 
--- src/lib.rt:62:17
 used-pair-used-in-requires : (t : ℕ) → used-pair-lts.Need-used-in-requires (
   field-at-reads.Asked,
   field-at-reads.Learnt,
   used-in-below t,
   used-in.Post,
 ) (used-pair-at t) used-pair.Post
-used-pair-used-in-requires t c κs = let w = (read.fits (now ((c .before .before .before .before .before .args) .b)) ((c .before .before .before .before .before .args) .at) ((c .before .before .before .before .before .args) .end) ((c .before .h) .given .0 .0) ((c .before .h) .given .0 .1 .0) ((c .before .h) .given .0 .1 .1 .0) ((c .before .before .before .before .before .pre) .1 .0) (sym ((c .before .h) .given .1) ∙ (c .before .before .before .field-at) .ensures)) in omega (arith, (c .before .before .before .before .before .pre), w)
+used-pair-used-in-requires t c κs =
+    let the-args = c .before .before .before .before .before .args in
+    let the-h = c .before .h in
+    let the-pre = c .before .before .before .before .before .pre in
+    let the-field-at = c .before .before .before .field-at in
+    let w = (read.fits (now (the-args .b)) (the-args .at) (the-args .end) (the-h .given .0 .0) (the-h .given .0 .1 .0) (the-h .given .0 .1 .1 .0) (the-pre .1 .0) (sym (the-h .given .1) ∙ the-field-at .ensures)) in omega (arith, the-pre, w)
 
--- src/lib.rt:63:17
 used-pair-used-in-requires-2 : (t : ℕ) → used-pair-lts.Need-used-in-requires-2 (
   field-at-reads.Asked,
   field-at-reads.Learnt,
   used-in-below t,
   used-in.Post,
 ) (used-pair-at t) used-pair.Post
-used-pair-used-in-requires-2 t c κs = let w = (read.fits (now ((c .before .before .before .before .before .before .args) .b)) ((c .before .before .before .before .before .before .args) .at) ((c .before .before .before .before .before .before .args) .end) ((c .before .before .h) .given .0 .0) ((c .before .before .h) .given .0 .1 .0) ((c .before .before .h) .given .0 .1 .1 .0) ((c .before .before .before .before .before .before .pre) .1 .0) (sym ((c .before .before .h) .given .1) ∙ (c .before .before .before .before .field-at) .ensures)) in omega (arith, (c .before .before .before .before .before .before .pre), w)
+used-pair-used-in-requires-2 t c κs =
+    let the-args = c .before .before .before .before .before .before .args in
+    let the-h = c .before .before .h in
+    let the-pre = c .before .before .before .before .before .before .pre in
+    let the-field-at = c .before .before .before .before .field-at in
+    let w = (read.fits (now (the-args .b)) (the-args .at) (the-args .end) (the-h .given .0 .0) (the-h .given .0 .1 .0) (the-h .given .0 .1 .1 .0) (the-pre .1 .0) (sym (the-h .given .1) ∙ the-field-at .ensures)) in omega (arith, the-pre, w)
 
--- src/lib.rt:54:1
 used-pair-returns : (t : ℕ) → used-pair-lts.Need-returns (
   field-at-reads.Asked,
   field-at-reads.Learnt,
   used-in-below t,
   used-in.Post,
 ) (used-pair-at t) used-pair.Post
-used-pair-returns t c = laws.used-pair-unfit (now ((c .before .before .before .before .args) .b)) ((c .before .before .before .before .args) .at) ((c .before .before .before .before .args) .end) (sym ((c .enum-told) .given .1) ∙ (c .before .before .field-at) .ensures)
+used-pair-returns t c =
+    let the-args = c .before .before .before .before .args in
+    let the-field-at = c .before .before .field-at in
+    laws.used-pair-unfit (now (the-args .b)) (the-args .at) (the-args .end) (sym ((c .enum-told) .given .1) ∙ the-field-at .ensures)
 
--- src/lib.rt:54:1
 used-pair-returns-2 : (t : ℕ) → used-pair-lts.Need-returns-2 (
   field-at-reads.Asked,
   field-at-reads.Learnt,
   used-in-below t,
   used-in.Post,
 ) (used-pair-at t) used-pair.Post
-used-pair-returns-2 t c = laws.used-two ((now ((c .before .before .before .before .before .before .before .args) .b))) ((c .before .before .before .before .before .before .before .args) .at) ((c .before .before .before .before .before .before .before .args) .end) (sym ((c .before .before .before .h) .given .1) ∙ (c .before .before .before .before .before .field-at) .ensures) ((c .before .used-in) .ensures) ((c .used-in2) .ensures)
+used-pair-returns-2 t c =
+    let the-args = c .before .before .before .before .before .before .before .args in
+    let the-h = c .before .before .before .h in
+    let the-field-at = c .before .before .before .before .before .field-at in
+    let the-used-in = c .before .used-in in
+    laws.used-two ((now (the-args .b))) (the-args .at) (the-args .end) (sym (the-h .given .1) ∙ the-field-at .ensures) (the-used-in .ensures) ((c .used-in2) .ensures)
 
 pub +used-in+used-pair-spec : {M : Type 1} → statement M
 +used-in+used-pair-spec = close μ-used-in μ-used-pair (λ t. used-in-lts.spec (

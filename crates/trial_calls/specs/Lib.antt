@@ -1,0 +1,2 @@
+-- What the contracts of the calls for questions cite.
+pub mod Questions
