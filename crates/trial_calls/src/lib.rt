@@ -7,8 +7,11 @@ ghost use Rattle.table.specs.Adding.{Adding};
 ghost use Rattle.book.specs.Reading.{Reading};
 ghost use Rattle.book.specs.Writing.{Writing};
 ghost use Rattle.closing.specs.Closing.{Closing};
+ghost use Rattle.steplist.specs.Filling.{Filling};
 ghost use Rattle.trackvesper.specs.ClosedBook.{ClosedBook};
 ghost use Rattle.trial_calls.specs.Questions.{Counted, StepAt};
+use question::records::StepRecord;
+use steplist::Filled;
 
 #[no_mangle]
 pub extern "C" fn trial_check(
@@ -167,4 +170,12 @@ pub extern "C" fn trial_step(
         step.amark as u64,
         step.ann,
     ];
+}
+
+// Compiling into records that Rust lends.
+#[no_mangle]
+pub extern "C" fn trial_fill(kind: u8, bytes: &[u8], records: &mut [StepRecord]) -> Filled
+    ensures { λ r. ⌜ Filling kind (now (bytes .entry)) (now (records .entry)) (r .number) (r .place) (r .count) (now (records .exit)) ⌝ }
+{
+    steplist::compile(kind, bytes, records)
 }
