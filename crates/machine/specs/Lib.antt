@@ -4,3 +4,4 @@ pub mod Trace
 pub mod Bounded
 pub mod Legal
 pub mod Running
+pub mod Inner
