@@ -133,7 +133,7 @@ pub extern "C" fn trial_compile(
 ) -> u8
     ensures { λ r. ⌜ Counted kind (now (bytes .entry)) room r (now (place .exit)) (now (count .exit)) ⌝ }
 {
-    let answer = trackvesper::compile(kind, bytes, room);
+    let answer = question::compile(kind, bytes, room);
     *place = answer.place;
     *count = answer.count;
     answer.number
@@ -150,7 +150,7 @@ pub extern "C" fn trial_step(
 )
     ensures { λ r. ⌜ StepAt kind (now (bytes .entry)) room index (now (fields .exit)) ⌝ }
 {
-    let answer = trackvesper::compile(kind, bytes, room);
+    let answer = question::compile(kind, bytes, room);
     let records = answer.records;
     if index >= 48 {
         *fields = [0; 11];
@@ -177,5 +177,5 @@ pub extern "C" fn trial_step(
 pub extern "C" fn trial_fill(kind: u8, bytes: &[u8], records: &mut [StepRecord]) -> Filled
     ensures { λ r. ⌜ Filling kind (now (bytes .entry)) (now (records .entry)) (r .number) (r .place) (r .count) (now (records .exit)) ⌝ }
 {
-    steplist::compile(kind, bytes, records)
+    trackvesper::compile(kind, bytes, records)
 }
