@@ -11,3 +11,6 @@ pub mod Marking
 pub mod Spanning
 pub mod Turning
 pub mod Whole
+-- What is shown of the public call.
+pub mod RunDetermined
+pub mod RunBounds

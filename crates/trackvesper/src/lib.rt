@@ -13,8 +13,11 @@ pub use book::read;
 pub use book::write;
 // What follows from a table.
 pub use closing::close;
-// Questions: checked and compiled to steps.
-pub use question::compile;
+// Questions: checked and compiled into lent step records, and run from them; and both for whoever holds the records by value.
+pub use steplist::compile;
+pub use steplist::compile_array;
+pub use steplist::run;
+pub use steplist::run_array;
 
 // A number and a length or place in one word.
 fn pack(number: u8, rest: usize) -> u64

@@ -7,8 +7,11 @@ ghost use Rattle.table.specs.Adding.{Adding};
 ghost use Rattle.book.specs.Reading.{Reading};
 ghost use Rattle.book.specs.Writing.{Writing};
 ghost use Rattle.closing.specs.Closing.{Closing};
+ghost use Rattle.steplist.specs.Filling.{Filling};
 ghost use Rattle.trackvesper.specs.ClosedBook.{ClosedBook};
 ghost use Rattle.trial_calls.specs.Questions.{Counted, StepAt};
+use question::records::StepRecord;
+use steplist::Filled;
 
 #[no_mangle]
 pub extern "C" fn trial_check(
@@ -130,7 +133,7 @@ pub extern "C" fn trial_compile(
 ) -> u8
     ensures { λ r. ⌜ Counted kind (now (bytes .entry)) room r (now (place .exit)) (now (count .exit)) ⌝ }
 {
-    let answer = trackvesper::compile(kind, bytes, room);
+    let answer = question::compile(kind, bytes, room);
     *place = answer.place;
     *count = answer.count;
     answer.number
@@ -147,7 +150,7 @@ pub extern "C" fn trial_step(
 )
     ensures { λ r. ⌜ StepAt kind (now (bytes .entry)) room index (now (fields .exit)) ⌝ }
 {
-    let answer = trackvesper::compile(kind, bytes, room);
+    let answer = question::compile(kind, bytes, room);
     let records = answer.records;
     if index >= 48 {
         *fields = [0; 11];
@@ -167,4 +170,12 @@ pub extern "C" fn trial_step(
         step.amark as u64,
         step.ann,
     ];
+}
+
+// Compiling into records that Rust lends.
+#[no_mangle]
+pub extern "C" fn trial_fill(kind: u8, bytes: &[u8], records: &mut [StepRecord]) -> Filled
+    ensures { λ r. ⌜ Filling kind (now (bytes .entry)) (now (records .entry)) (r .number) (r .place) (r .count) (now (records .exit)) ⌝ }
+{
+    trackvesper::compile(kind, bytes, records)
 }

@@ -110,6 +110,38 @@ extern "C" {
         index: usize,
         fields: *mut [u64; FIELDS],
     );
+
+    fn trial_fill(
+        kind: u8,
+        bytes: *const u8,
+        bytes_len: usize,
+        records: *mut StepRecord,
+        records_len: usize,
+    ) -> Filled;
+}
+
+/// A step record as the library lends and borrows it.
+#[repr(C)]
+#[derive(Clone, Copy, Debug, PartialEq, Eq)]
+pub struct StepRecord {
+    pub op: u8,
+    pub test: u8,
+    pub target: usize,
+    pub smark: u8,
+    pub subj: u16,
+    pub pmark: u8,
+    pub pred: u16,
+    pub omark: u8,
+    pub obj: u16,
+    pub amark: u8,
+    pub ann: u64,
+}
+
+#[repr(C)]
+struct Filled {
+    number: u8,
+    place: usize,
+    count: usize,
 }
 
 /// The fields of a step record.
@@ -245,6 +277,16 @@ pub fn compile(kind: u8, question: &[u8], room: usize) -> Compiled {
         trial_compile(kind, question.as_ptr(), question.len(), room, &mut place, &mut count)
     };
     Compiled { number: u32::from(number), place: place as u64, steps: count }
+}
+
+/// Compiles into records that are lent.
+pub fn fill(kind: u8, question: &[u8], records: &mut [StepRecord]) -> Compiled {
+    // SAFETY: both slices are live for the call and do not overlap; the record has C's layout on both sides.
+    let filled = unsafe {
+        let (lent, room) = (records.as_mut_ptr(), records.len());
+        trial_fill(kind, question.as_ptr(), question.len(), lent, room)
+    };
+    Compiled { number: u32::from(filled.number), place: filled.place as u64, steps: filled.count }
 }
 
 /// The records that go with `compile`, each as its fields: what a step does, a test's mark, a

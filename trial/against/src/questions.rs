@@ -1,6 +1,6 @@
 //! Compiling questions: number, place, count and every field of the 48 records.
 
-use crate::calls::{self, FIELDS};
+use crate::calls::{self, StepRecord, FIELDS};
 use crate::{same, Difference};
 use trial::question;
 use trial::random::{self, questions, Random};
@@ -30,7 +30,39 @@ pub fn compile_one(kind: u8, bytes: &[u8], room: usize) -> Result<(), Difference
     for (record, step) in records.iter_mut().zip(&lent[..model.steps]) {
         *record = fields_of(step);
     }
-    same("compile: records", &calls::records(kind, bytes, room), &records, input)
+    same("compile: records", &calls::records(kind, bytes, room), &records, input)?;
+    // lent records: the steps in front, and what was there before behind them
+    let before: Vec<StepRecord> = (0..room).map(marked).collect();
+    let mut row = before.clone();
+    same("compile: answer on lent records", &calls::fill(kind, bytes, &mut row), &model, input)?;
+    let mut wanted = before;
+    for (record, step) in wanted.iter_mut().zip(&lent[..model.steps]) {
+        *record = record_of(&fields_of(step));
+    }
+    same("compile: lent records", &row, &wanted, input)
+}
+
+/// A record that no compiling writes, another at each index.
+fn marked(index: usize) -> StepRecord {
+    let ann = index as u64;
+    record_of(&[200, 201, ann, 202, 60001, 203, 60002, 204, 60003, 205, ann])
+}
+
+fn record_of(fields: &[u64; FIELDS]) -> StepRecord {
+    let &[op, test, target, smark, subj, pmark, pred, omark, obj, amark, ann] = fields;
+    StepRecord {
+        op: op as u8,
+        test: test as u8,
+        target: target as usize,
+        smark: smark as u8,
+        subj: subj as u16,
+        pmark: pmark as u8,
+        pred: pred as u16,
+        omark: omark as u8,
+        obj: obj as u16,
+        amark: amark as u8,
+        ann,
+    }
 }
 
 /// A step of the model as the library lays it out: a test's slots stand as subject and object, the
