@@ -6,8 +6,6 @@ use libc::STDIN_FILENO;
 
 pub const CUT: u8 = 1;
 
-pub const RECORDS: usize = 48;
-
 pub const ALL_LOOKS: u32 = 4294967295;
 
 fn main() {
@@ -171,13 +169,13 @@ fn ask(
     terms: &mut [u16],
     anns: &mut [u64],
 ) {
-    let made = question::compile(kind, question, RECORDS);
+    let made = steplist::compile_array(kind, question);
     if made.number > 0 {
         asked(made.number, made.place, 0, 0);
         return;
     }
     let records = made.records;
-    let ran = machine::run(
+    let ran = steplist::run_array(
         kind,
         subj,
         pred,
@@ -185,7 +183,6 @@ fn ask(
         ann,
         count,
         records,
-        RECORDS,
         made.count,
         ALL_LOOKS,
         terms,

@@ -1,3 +1,4 @@
 -- Laws that belong to no one function.
 pub mod Exported
 pub mod ExportDetermined
+pub mod PublicConditionThree

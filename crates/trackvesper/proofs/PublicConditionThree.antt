@@ -1,0 +1,51 @@
+-- Condition 3 for the public calls: what `compile` laid in the lent records, `run` answers as the question means. Assumes nothing.
+use mathlib.Core.Path.{_≡_, refl}
+use mathlib.Core.List.{List, _++_, map}
+use Prim.Native.Nat.{ℕ, _≤_}
+use native.Mathlib.Omega.{arith}
+use lib.ListN.{length, drop, length-append, length-map}
+use Rattle.question.specs.declared.records.StepRecord.{StepRecord}
+use Rattle.question.specs.Part.{Part}
+use Rattle.question.specs.Steps.{Step}
+use Rattle.question.specs.Records.{recordOf}
+use Rattle.question.specs.Compiling.{Final, steps, refused, compiling}
+use Rattle.question.proofs.ZeroIsDone.{refusal-has-number}
+use Rattle.machine.specs.Running.{running}
+use Rattle.meaning.specs.AsMeant.{RunAsMeant}
+use Rattle.meaning.proofs.ConditionThree.{condition-three}
+use Rattle.steplist.specs.Filling.{Laid, Filling}
+use Rattle.trackvesper.specs.Answered.{Answered, EveryRunAnswers, PublicConditionThree}
+
+-- a compiling that answers 0 has steps, and they stand in front of the records
+pub record Steps (kind : ℕ) (s : List ℕ) (before after : List StepRecord) (count : ℕ) : Type 0 where
+  pub st : List Step
+  pub compiles : compiling kind s (length before) ≡ steps st
+  pub counted : count ≡ length st
+  pub laid : after ≡ map recordOf st ++ drop (length st) before
+
+module _ (kind : ℕ) (s : List ℕ) (before after : List StepRecord) (place count : ℕ) where
+  steps-of : (f : Final) → compiling kind s (length before) ≡ f → Laid 0 place count before after f → Steps kind s before after count
+  steps-of (steps st) e h = record { st = st; compiles = e; counted = h .2; laid = h .3 }
+  steps-of (refused x p) e h = absurd (omega (arith, refusal-has-number kind s (length before) x p e, h .0))
+
+few-in : (st : List Step) (behind : List StepRecord) → length st ≤ length (map recordOf st ++ behind)
+few-in st behind = omega (arith, length-append (map recordOf st) behind, length-map st recordOf)
+
+runs-answer : (kind : ℕ) (p : Part) (st : List Step) (behind records : List StepRecord) (count : ℕ) → count ≡ length st
+    → records ≡ map recordOf st ++ behind → RunAsMeant kind p st → EveryRunAnswers kind p records count
+runs-answer kind p st behind records count e f h l n terms anns allowed number place answers looks terms′ anns′ sound fit ran =
+    record {
+      outcome = running kind l n terms anns records (length records) count allowed;
+      as-meant = rw (e, f) (h l n terms anns behind (length (map recordOf st ++ behind)) allowed sound fit (few-in st behind));
+      reported = ran;
+    }
+
+pub public-condition-three : PublicConditionThree
+public-condition-three kind s before after place count h =
+    let z = steps-of kind s before after place count _ refl (h .comes-to) in
+    let w = condition-three kind s (length before) (z .st) (z .compiles) in (
+      w .0,
+      w .1,
+      w .2,
+      runs-answer kind (w .0) (z .st) (drop (length (z .st)) before) after count (z .counted) (z .laid) (w .3),
+    )

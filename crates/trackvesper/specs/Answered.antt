@@ -1,0 +1,36 @@
+-- The third condition for the public calls: `compile` fills the lent step records, and `run` takes the steps from them.
+use mathlib.Core.Path.{_≡_}
+use mathlib.Core.Bool.{false}
+use mathlib.Core.List.{List}
+use Prim.Native.Nat.{ℕ, _≤_}
+use lib.ListN.{length}
+use Rattle.annotation.specs.Kinds.{algebra}
+use Rattle.table.specs.Rows.{Lanes, rowsOf}
+use Rattle.table.specs.Sound.{Sound}
+use Rattle.question.specs.declared.records.StepRecord.{StepRecord}
+use Rattle.question.specs.Part.{Part, parts}
+use Rattle.machine.specs.Bounded.{Outcome}
+use Rattle.machine.specs.Running.{answerRoom, isUnfitRoom, running, Ran}
+use Rattle.meaning.specs.AsMeant.{IsQuestion, AsMeant}
+use Rattle.steplist.specs.Filling.{Filling}
+
+-- what a call of `run` answered and left in the answer lanes is what the part means over the table's rows
+pub record Answered (kind : ℕ) (l : Lanes) (n : ℕ) (p : Part) (allowed number place answers looks : ℕ) (terms anns terms′ anns′ : List ℕ) : Type 0 where
+  pub outcome : Outcome
+  pub as-meant : AsMeant (algebra kind) (rowsOf l n) p allowed (answerRoom terms) outcome
+  pub reported : Ran outcome number place answers looks terms anns terms′ anns′
+
+-- any result that the contract of `run` allows for these records and this number of steps
+abbrev pub EveryRunAnswers : ℕ → Part → List StepRecord → ℕ → Type 0
+EveryRunAnswers kind p records steps =
+    (l : Lanes) (n : ℕ) (terms anns : List ℕ) (allowed number place answers looks : ℕ) (terms′ anns′ : List ℕ)
+    → Sound kind l n → isUnfitRoom terms anns ≡ false
+    → Ran (running kind l n terms anns records (length records) steps allowed) number place answers looks terms anns terms′ anns′
+    → Answered kind l n p allowed number place answers looks terms anns terms′ anns′
+
+-- "For every question of up to 32 parts that passes the check, turning it into the tester's flat steps and running them over any sound table of
+-- the same kind of annotation lists exactly the answers that the published meaning gives": whatever `compile` answers with 0
+abbrev pub PublicConditionThree : Type 0
+PublicConditionThree =
+    (kind : ℕ) (s : List ℕ) (before after : List StepRecord) (place count : ℕ) → Filling kind s before 0 place count after
+    → (p : Part) × IsQuestion kind s p × (parts p ≤ 32) × EveryRunAnswers kind p after count
