@@ -1,5 +1,6 @@
 // The calls that trial/ makes from Rust, by numbers and slices: each hands over to a proved function and lays its answer out.
 ghost use mathlib.Core.Path.{_≡_};
+ghost use lib.ListN.{length};
 ghost use Rattle.term.specs.Refusal.{verdict, first};
 ghost use Rattle.table.specs.Rows.{row, lanes};
 ghost use Rattle.table.specs.Checks.{tableChecks};
@@ -7,9 +8,10 @@ ghost use Rattle.table.specs.Adding.{Adding};
 ghost use Rattle.book.specs.Reading.{Reading};
 ghost use Rattle.book.specs.Writing.{Writing};
 ghost use Rattle.closing.specs.Closing.{Closing};
+ghost use Rattle.machine.specs.Running.{running, Ran};
 ghost use Rattle.steplist.specs.Filling.{Filling};
 ghost use Rattle.trackvesper.specs.ClosedBook.{ClosedBook};
-ghost use Rattle.trial_calls.specs.Questions.{Counted, StepAt};
+use machine::RunDone;
 use question::records::StepRecord;
 use steplist::Filled;
 
@@ -123,59 +125,42 @@ pub extern "C" fn trial_close_book(book: &[u8], out: &mut [u8]) -> u64
     trackvesper::trackvesper_close_book(book, out)
 }
 
-#[no_mangle]
-pub extern "C" fn trial_compile(
-    kind: u8,
-    bytes: &[u8],
-    room: usize,
-    place: &mut usize,
-    count: &mut usize,
-) -> u8
-    ensures { λ r. ⌜ Counted kind (now (bytes .entry)) room r (now (place .exit)) (now (count .exit)) ⌝ }
-{
-    let answer = question::compile(kind, bytes, room);
-    *place = answer.place;
-    *count = answer.count;
-    answer.number
-}
-
-// One of the 48 records of the same answer, as eleven numbers in the order of its fields; zeros past them.
-#[no_mangle]
-pub extern "C" fn trial_step(
-    kind: u8,
-    bytes: &[u8],
-    room: usize,
-    index: usize,
-    fields: &mut [u64; 11],
-)
-    ensures { λ r. ⌜ StepAt kind (now (bytes .entry)) room index (now (fields .exit)) ⌝ }
-{
-    let answer = question::compile(kind, bytes, room);
-    let records = answer.records;
-    if index >= 48 {
-        *fields = [0; 11];
-        return;
-    }
-    let step = records[index];
-    *fields = [
-        step.op as u64,
-        step.test as u64,
-        step.target as u64,
-        step.smark as u64,
-        step.subj as u64,
-        step.pmark as u64,
-        step.pred as u64,
-        step.omark as u64,
-        step.obj as u64,
-        step.amark as u64,
-        step.ann,
-    ];
-}
-
 // Compiling into records that Rust lends.
 #[no_mangle]
 pub extern "C" fn trial_fill(kind: u8, bytes: &[u8], records: &mut [StepRecord]) -> Filled
     ensures { λ r. ⌜ Filling kind (now (bytes .entry)) (now (records .entry)) (r .number) (r .place) (r .count) (now (records .exit)) ⌝ }
 {
     trackvesper::compile(kind, bytes, records)
+}
+
+// A run over records that Rust lends.
+#[no_mangle]
+pub extern "C" fn trial_run(
+    kind: u8,
+    subj: &[u16],
+    pred: &[u16],
+    obj: &[u16],
+    ann: &[u64],
+    count: usize,
+    records: &[StepRecord],
+    steps: usize,
+    allowed: u32,
+    terms: &mut [u16],
+    anns: &mut [u64],
+) -> RunDone
+    ensures { λ r. ⌜ Ran (running kind (lanes (now (subj .entry)) (now (pred .entry)) (now (obj .entry)) (now (ann .entry))) count (now (terms .entry)) (now (anns .entry)) (now (records .entry)) (length (now (records .entry))) steps allowed) (r .number) (r .place) (r .answers) (r .looks) (now (terms .entry)) (now (anns .entry)) (now (terms .exit)) (now (anns .exit)) ⌝ }
+{
+    trackvesper::run(
+        kind,
+        subj,
+        pred,
+        obj,
+        ann,
+        count,
+        records,
+        steps,
+        allowed,
+        terms,
+        anns,
+    )
 }

@@ -3,10 +3,12 @@
 //! Nothing checks these declarations against the Rattle source: a slice goes over as a pointer
 //! and a length, a reference as a pointer.
 
+use crate::questions::record_of;
+use crate::runs::Running;
 use trial::book::{ReadOut, WriteOut};
 use trial::closing::CloseOut;
 use trial::question::Compiled;
-use trial::steps::MOST_STEPS;
+use trial::steps::Ran;
 use trial::table::{Added, Lanes, Row, Verdict};
 
 extern "C" {
@@ -93,24 +95,6 @@ extern "C" {
 
     fn trial_close_book(book: *const u8, book_len: usize, out: *mut u8, out_len: usize) -> u64;
 
-    fn trial_compile(
-        kind: u8,
-        bytes: *const u8,
-        bytes_len: usize,
-        room: usize,
-        place: *mut usize,
-        count: *mut usize,
-    ) -> u8;
-
-    fn trial_step(
-        kind: u8,
-        bytes: *const u8,
-        bytes_len: usize,
-        room: usize,
-        index: usize,
-        fields: *mut [u64; FIELDS],
-    );
-
     fn trial_fill(
         kind: u8,
         bytes: *const u8,
@@ -118,6 +102,27 @@ extern "C" {
         records: *mut StepRecord,
         records_len: usize,
     ) -> Filled;
+
+    fn trial_run(
+        kind: u8,
+        subj: *const u16,
+        subj_len: usize,
+        pred: *const u16,
+        pred_len: usize,
+        obj: *const u16,
+        obj_len: usize,
+        ann: *const u64,
+        ann_len: usize,
+        count: usize,
+        records: *const StepRecord,
+        records_len: usize,
+        steps: usize,
+        allowed: u32,
+        terms: *mut u16,
+        terms_len: usize,
+        anns: *mut u64,
+        anns_len: usize,
+    ) -> RunDone;
 }
 
 /// A step record as the library lends and borrows it.
@@ -144,8 +149,13 @@ struct Filled {
     count: usize,
 }
 
-/// The fields of a step record.
-pub const FIELDS: usize = 11;
+#[repr(C)]
+struct RunDone {
+    number: u8,
+    place: usize,
+    answers: usize,
+    looks: u32,
+}
 
 pub fn check(kind: u8, lanes: &Lanes, count: usize) -> Verdict {
     let mut place = usize::MAX;
@@ -270,17 +280,8 @@ pub fn close_book(book: &[u8], out: &mut [u8]) -> u64 {
     unsafe { trial_close_book(book.as_ptr(), book.len(), out.as_mut_ptr(), out.len()) }
 }
 
-pub fn compile(kind: u8, question: &[u8], room: usize) -> Compiled {
-    let (mut place, mut count) = (usize::MAX, usize::MAX);
-    // SAFETY: the slice is live for the call, which only reads it.
-    let number = unsafe {
-        trial_compile(kind, question.as_ptr(), question.len(), room, &mut place, &mut count)
-    };
-    Compiled { number: u32::from(number), place: place as u64, steps: count }
-}
-
 /// Compiles into records that are lent.
-pub fn fill(kind: u8, question: &[u8], records: &mut [StepRecord]) -> Compiled {
+pub fn compile(kind: u8, question: &[u8], records: &mut [StepRecord]) -> Compiled {
     // SAFETY: both slices are live for the call and do not overlap; the record has C's layout on both sides.
     let filled = unsafe {
         let (lent, room) = (records.as_mut_ptr(), records.len());
@@ -289,17 +290,33 @@ pub fn fill(kind: u8, question: &[u8], records: &mut [StepRecord]) -> Compiled {
     Compiled { number: u32::from(filled.number), place: filled.place as u64, steps: filled.count }
 }
 
-/// The records that go with `compile`, each as its fields: what a step does, a test's mark, a
-/// target, then mark and value of subject, predicate, object and annotation.
-pub fn records(kind: u8, question: &[u8], room: usize) -> Vec<[u64; FIELDS]> {
-    (0..MOST_STEPS)
-        .map(|index| {
-            let mut fields = [u64::MAX; FIELDS];
-            // SAFETY: the slice is live for the call, which only reads it.
-            unsafe {
-                trial_step(kind, question.as_ptr(), question.len(), room, index, &mut fields)
-            };
-            fields
-        })
-        .collect()
+/// Runs over records that are lent, made of the running's steps.
+pub fn run(running: &Running, terms: &mut [u16], anns: &mut [u64]) -> Ran {
+    let Running { kind, lanes, count, steps, step_count, allowed, .. } = running;
+    let records: Vec<StepRecord> = steps.iter().map(record_of).collect();
+    // SAFETY: the slices are live for the call, the answer lanes borrowed for it alone, and none overlap.
+    let done = unsafe {
+        trial_run(
+            *kind,
+            lanes.subj.as_ptr(),
+            lanes.subj.len(),
+            lanes.pred.as_ptr(),
+            lanes.pred.len(),
+            lanes.obj.as_ptr(),
+            lanes.obj.len(),
+            lanes.ann.as_ptr(),
+            lanes.ann.len(),
+            *count,
+            records.as_ptr(),
+            records.len(),
+            *step_count,
+            *allowed,
+            terms.as_mut_ptr(),
+            terms.len(),
+            anns.as_mut_ptr(),
+            anns.len(),
+        )
+    };
+    let (number, place) = (u32::from(done.number), done.place as u64);
+    Ran { number, place, answers: done.answers, looks: done.looks }
 }

@@ -4,11 +4,14 @@
 //! A case is dealt from one seed, so a difference is found again by its seed. It is also printed
 //! with its whole input, and goes to `stored` once it is settled.
 
+pub mod asked;
+pub mod asking;
 pub mod baseline;
 pub mod books;
 pub mod calls;
 pub mod closings;
 pub mod questions;
+pub mod runs;
 pub mod stored;
 pub mod stored_questions;
 pub mod tables;
@@ -20,7 +23,7 @@ pub type Difference = String;
 pub type Case = fn(u64) -> Result<(), Difference>;
 
 /// Every kind of case, by name.
-pub const CASES: [(&str, Case); 7] = [
+pub const CASES: [(&str, Case); 9] = [
     ("check", tables::check),
     ("add", tables::add),
     ("read", books::read),
@@ -28,6 +31,8 @@ pub const CASES: [(&str, Case); 7] = [
     ("close", closings::close),
     ("close book", closings::close_book),
     ("compile", questions::compile),
+    ("ask", runs::ask),
+    ("run", runs::any_run),
 ];
 
 /// Compares what the two gave; `input` is only put together where they differ.

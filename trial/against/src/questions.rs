@@ -1,10 +1,10 @@
-//! Compiling questions: number, place, count and every field of the 48 records.
+//! Compiling questions: number, place, count and every field of every record lent.
 
-use crate::calls::{self, StepRecord, FIELDS};
+use crate::calls::{self, StepRecord};
 use crate::{same, Difference};
-use trial::question;
+use trial::question::{self, Compiled};
 use trial::random::{self, questions, Random};
-use trial::steps::{Step, FORK, GO, MOST_STEPS, SEEK, TEST};
+use trial::steps::{Step, MOST_STEPS, TEST};
 
 /// A question dealt from the seed: valid, loose in its tests, damaged in one or several ways, or
 /// no question at all; now and then too few records, or an illegal kind.
@@ -20,36 +20,36 @@ pub fn compile(seed: u64) -> Result<(), Difference> {
     compile_one(kind, &bytes, room)
 }
 
+/// The steps stand in front, and what was there before behind them.
 pub fn compile_one(kind: u8, bytes: &[u8], room: usize) -> Result<(), Difference> {
-    let mut lent = vec![Step::default(); room];
-    let model = question::compile(kind, bytes, &mut lent);
-    let proved = calls::compile(kind, bytes, room);
+    let mut steps = vec![Step::default(); room];
+    let model = question::compile(kind, bytes, &mut steps);
+    let (proved, records) = compiled(kind, bytes, room);
     let input = || format!("kind {kind}, room {room}, question {bytes:?}");
     same("compile: answer", &proved, &model, input)?;
-    let mut records = vec![[0; FIELDS]; MOST_STEPS];
-    for (record, step) in records.iter_mut().zip(&lent[..model.steps]) {
-        *record = fields_of(step);
+    let mut wanted = marked(room);
+    for (record, step) in wanted.iter_mut().zip(&steps[..model.steps]) {
+        *record = record_of(step);
     }
-    same("compile: records", &calls::records(kind, bytes, room), &records, input)?;
-    // lent records: the steps in front, and what was there before behind them
-    let before: Vec<StepRecord> = (0..room).map(marked).collect();
-    let mut row = before.clone();
-    same("compile: answer on lent records", &calls::fill(kind, bytes, &mut row), &model, input)?;
-    let mut wanted = before;
-    for (record, step) in wanted.iter_mut().zip(&lent[..model.steps]) {
-        *record = record_of(&fields_of(step));
-    }
-    same("compile: lent records", &row, &wanted, input)
+    same("compile: records", &records, &wanted, input)
 }
 
-/// A record that no compiling writes, another at each index.
-fn marked(index: usize) -> StepRecord {
-    let ann = index as u64;
-    record_of(&[200, 201, ann, 202, 60001, 203, 60002, 204, 60003, 205, ann])
+/// Compiles into so many marked records.
+pub fn compiled(kind: u8, bytes: &[u8], room: usize) -> (Compiled, Vec<StepRecord>) {
+    let mut records = marked(room);
+    (calls::compile(kind, bytes, &mut records), records)
 }
 
-fn record_of(fields: &[u64; FIELDS]) -> StepRecord {
-    let &[op, test, target, smark, subj, pmark, pred, omark, obj, amark, ann] = fields;
+/// Records that no compiling writes, another at each index.
+pub fn marked(room: usize) -> Vec<StepRecord> {
+    let record = |at| record([200, 201, at, 202, 60_001, 203, 60_002, 204, 60_003, 205, at]);
+    (0..room as u64).map(record).collect()
+}
+
+/// A record of its eleven fields: what a step does, a test's mark, a target, then mark and value
+/// of subject, predicate, object and annotation.
+pub fn record(fields: [u64; 11]) -> StepRecord {
+    let [op, test, target, smark, subj, pmark, pred, omark, obj, amark, ann] = fields;
     StepRecord {
         op: op as u8,
         test: test as u8,
@@ -66,22 +66,32 @@ fn record_of(fields: &[u64; FIELDS]) -> StepRecord {
 }
 
 /// A step of the model as the library lays it out: a test's slots stand as subject and object, the
-/// variable of a test on an annotation as subject, its constant as annotation; the rest is 0.
-pub fn fields_of(step: &Step) -> [u64; FIELDS] {
-    let kind = u64::from(step.kind);
+/// variable of a test on an annotation as subject, its constant as annotation. What a step does not
+/// use goes over as it is.
+pub fn record_of(step: &Step) -> StepRecord {
+    let plain = StepRecord {
+        op: step.kind,
+        test: step.test,
+        target: step.target.into(),
+        smark: step.subj.mark,
+        subj: step.subj.value,
+        pmark: step.pred.mark,
+        pred: step.pred.value,
+        omark: step.obj.mark,
+        obj: step.obj.value,
+        amark: step.ann.mark,
+        ann: step.ann.value,
+    };
+    let (left, right) = (step.left, step.right);
     match (step.kind, step.test) {
-        (SEEK, _) => {
-            let [s, p, o] =
-                [step.subj, step.pred, step.obj].map(|slot| (slot.mark.into(), slot.value.into()));
-            let a = (u64::from(step.ann.mark), step.ann.value);
-            [kind, 0, 0, s.0, s.1, p.0, p.1, o.0, o.1, a.0, a.1]
-        }
-        (FORK | GO, _) => [kind, 0, step.target.into(), 0, 0, 0, 0, 0, 0, 0, 0],
-        (TEST, 2) => [kind, 2, 0, 0, step.var.into(), 0, 0, 0, 0, 0, step.least],
-        (TEST, test) => {
-            let [x, y] = [step.left, step.right].map(|slot| (slot.mark.into(), slot.value.into()));
-            [kind, test.into(), 0, x.0, x.1, 0, 0, y.0, y.1, 0, 0]
-        }
-        _ => [kind, 0, 0, 0, 0, 0, 0, 0, 0, 0, 0],
+        (TEST, 2) => StepRecord { subj: step.var, ann: step.least, ..plain },
+        (TEST, _) => StepRecord {
+            smark: left.mark,
+            subj: left.value,
+            omark: right.mark,
+            obj: right.value,
+            ..plain
+        },
+        _ => plain,
     }
 }

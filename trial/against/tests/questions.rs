@@ -1,7 +1,8 @@
 //! Compiling against the model: random questions with fixed seeds, cut at every byte and damaged
 //! at every place, and stored questions with the answer each must get.
 
-use against::{calls, questions, run, stored_questions as stored};
+use against::questions::{compiled, marked, record};
+use against::{questions, run, stored_questions as stored};
 use trial::question::{bytes_of, Compiled};
 use trial::random::{questions as deal, Random};
 
@@ -14,7 +15,7 @@ fn compile_agrees_on_random_questions() {
 #[test]
 fn stored_questions_get_their_number_and_place() {
     for (name, kind, bytes, number, place) in stored::all() {
-        let answer = calls::compile(kind, &bytes, 48);
+        let (answer, _) = compiled(kind, &bytes, 48);
         assert_eq!((answer.number, answer.place), (number, place), "{name}");
         questions::compile_one(kind, &bytes, 48).unwrap();
     }
@@ -36,9 +37,8 @@ fn too_few_records_are_11() {
     for bytes in [stored::p11(), vec![], stored::longest()] {
         for room in [0, 1, 46, 47] {
             let refused = Compiled { number: 11, place: 0, steps: 0 };
-            assert_eq!(calls::compile(1, &bytes, room), refused);
-            assert_eq!(calls::compile(0, &bytes, room).number, 4);
-            assert!(calls::records(1, &bytes, room).iter().all(|record| *record == [0; 11]));
+            assert_eq!(compiled(1, &bytes, room), (refused, marked(room)));
+            assert_eq!(compiled(0, &bytes, room).0.number, 4);
         }
         for room in [48, 49, 1000] {
             questions::compile_one(1, &bytes, room).unwrap();
@@ -49,33 +49,33 @@ fn too_few_records_are_11() {
 /// P11 is two SEEKs and a GIVE.
 #[test]
 fn p11_compiles_to_three_steps() {
-    assert_eq!(calls::compile(1, &stored::p11(), 48).steps, 3);
-    let records = calls::records(1, &stored::p11(), 48);
-    assert_eq!(records[0], [0, 0, 0, 1, 0, 0, 2, 0, 11, 1, 0]);
-    assert_eq!(records[1], [0, 0, 0, 1, 0, 0, 2, 0, 12, 1, 0]);
-    assert_eq!(records[2], [4, 0, 0, 0, 0, 0, 0, 0, 0, 0, 0]);
-    assert!(records[3..].iter().all(|record| *record == [0; 11]));
+    let (answer, records) = compiled(1, &stored::p11(), 48);
+    assert_eq!(answer.steps, 3);
+    assert_eq!(records[0], record([0, 0, 0, 1, 0, 0, 2, 0, 11, 1, 0]));
+    assert_eq!(records[1], record([0, 0, 0, 1, 0, 0, 2, 0, 12, 1, 0]));
+    assert_eq!(records[2], record([4, 0, 0, 0, 0, 0, 0, 0, 0, 0, 0]));
+    assert_eq!(records[3..], marked(48)[3..]);
 }
 
 /// FORK to the right part, SEEK and TEST, GO past the right part, SEEK and TEST, GIVE.
 #[test]
 fn either_compiles_to_fork_and_go() {
-    assert_eq!(calls::compile(1, &stored::forked(), 48).steps, 7);
-    let records = calls::records(1, &stored::forked(), 48);
-    assert_eq!(records[0], [1, 0, 4, 0, 0, 0, 0, 0, 0, 0, 0]);
-    assert_eq!(records[1], [0, 0, 0, 1, 15, 0, 2, 0, 11, 1, 7]);
-    assert_eq!(records[2], [3, 1, 0, 1, 15, 0, 0, 0, 16_384, 0, 0]);
-    assert_eq!(records[3], [2, 0, 6, 0, 0, 0, 0, 0, 0, 0, 0]);
-    assert_eq!(records[4], [0, 0, 0, 1, 1, 0, 2, 0, 11, 1, 3]);
-    assert_eq!(records[5], [3, 2, 0, 0, 3, 0, 0, 0, 0, 0, 5]);
-    assert_eq!(records[6], [4, 0, 0, 0, 0, 0, 0, 0, 0, 0, 0]);
+    let (answer, records) = compiled(1, &stored::forked(), 48);
+    assert_eq!(answer.steps, 7);
+    assert_eq!(records[0], record([1, 0, 4, 0, 0, 0, 0, 0, 0, 0, 0]));
+    assert_eq!(records[1], record([0, 0, 0, 1, 15, 0, 2, 0, 11, 1, 7]));
+    assert_eq!(records[2], record([3, 1, 0, 1, 15, 0, 0, 0, 16_384, 0, 0]));
+    assert_eq!(records[3], record([2, 0, 6, 0, 0, 0, 0, 0, 0, 0, 0]));
+    assert_eq!(records[4], record([0, 0, 0, 1, 1, 0, 2, 0, 11, 1, 3]));
+    assert_eq!(records[5], record([3, 2, 0, 0, 3, 0, 0, 0, 0, 0, 5]));
+    assert_eq!(records[6], record([4, 0, 0, 0, 0, 0, 0, 0, 0, 0, 0]));
 }
 
 /// 32 parts make 48 steps at most, and do.
 #[test]
 fn the_longest_question_fills_the_records() {
-    assert_eq!(calls::compile(1, &stored::longest(), 48).steps, 48);
-    assert_eq!(calls::records(1, &stored::longest(), 48)[47][0], 4);
+    let (answer, records) = compiled(1, &stored::longest(), 48);
+    assert_eq!((answer.steps, records[47].op), (48, 4));
 }
 
 /// Questions of every number of parts: 1 to 32 pass, 33 is 20.
@@ -86,7 +86,7 @@ fn thirty_two_parts_pass_and_thirty_three_do_not() {
         for kind in 1..=4 {
             let bytes = bytes_of(&deal::valid(&mut random, kind, parts));
             questions::compile_one(kind, &bytes, 48).unwrap();
-            let number = calls::compile(kind, &bytes, 48).number;
+            let number = compiled(kind, &bytes, 48).0.number;
             assert_eq!(number, if parts == 33 { 20 } else { 0 });
         }
     }

@@ -1,2 +1,0 @@
--- What the contracts of the calls for questions cite.
-pub mod Questions
