@@ -4,7 +4,7 @@ ghost use mathlib.Core.Bool.{cond};
 ghost use Rattle.table.specs.Rows.{row, lanes};
 ghost use Rattle.book.specs.Inner.{FieldInto, FieldPut, Fresh, FieldsRead};
 use crate::content::content_at;
-use table::put::put;
+use table::put::put_found;
 
 pub const HEAD_BYTES: usize = 7;
 
@@ -42,7 +42,7 @@ fn read_field(
             count,
         };
     }
-    let done = put(
+    let done = put_found(
         kind,
         subj,
         pred,

@@ -84,7 +84,7 @@ fn put_at(
     }
 }
 
-// Puts a row in, its place found by walking: for rows that come from outside.
+// Puts a row in, its place found by walking: for a row that is added.
 pub fn put(
     kind: u8,
     subj: &mut [u16],
@@ -104,7 +104,7 @@ pub fn put(
     put_at(kind, subj, pred, obj, ann, count, at, s, p, o, a)
 }
 
-// The same, its place found by halving: for rows that are mostly there already.
+// The same, its place found by halving: for rows that are read or drawn.
 pub fn put_found(
     kind: u8,
     subj: &mut [u16],

@@ -1,13 +1,18 @@
-//! Closing by the proved library beside a plain Rust closure with hash maps: the same tables, the
-//! same machine, one run. Times are the best of many; the lanes are filled anew before each.
+//! The proved library beside plain Rust: the same input, the same machine, one run. Times are the
+//! best of many, in microseconds.
 //!
-//! Rounds and rows drawn are those of the plainest way (every conclusion of every rule, round by
-//! round), which is what the proved closing does at most.
+//! Closing stands beside a closure with hash maps, running beside a walk of the question's tree
+//! that scans the rows, reading and compiling beside the model. Rounds and rows drawn are those of
+//! the plainest way (every conclusion of every rule, round by round), which is what the proved
+//! closing does at most.
 
-use against::{baseline, calls};
+use against::asked::{ann_var, both, con, either, triple, var};
+use against::runs::Running;
+use against::{asking, baseline, calls, questions};
 use std::hint::black_box;
 use std::time::Instant;
-use trial::closing;
+use trial::steps::{Step, ANNS, MOST_ANSWERS, MOST_STEPS, TERMS};
+use trial::{book, closing, question};
 use trial::table::{self, Lanes, Row, Triple};
 use trial::term::{DOM, RANGE, SC, SP, TYPE};
 
@@ -105,6 +110,104 @@ fn measure(name: &str, kind: u8, triples: &[Triple]) {
     );
 }
 
+/// A workshop's table of so many rows: lamps of classes, classes within classes, lamps on vans.
+fn workshop(rows: u16) -> Vec<Triple> {
+    let lamps = rows * 2 / 5;
+    let mut triples: Vec<Triple> = (0..lamps).map(|at| (1000 + at, TYPE, 100 + at % 40)).collect();
+    triples.extend((0..lamps).map(|at| (1000 + at, 20, 3000 + at % 60)));
+    triples.extend((0..rows - 2 * lamps).map(|at| (100 + at, SC, 500 + at % 7)));
+    triples
+}
+
+/// (s p o) with its annotation in a variable of its own number.
+fn part(subj: Vec<u8>, pred: u16, obj: Vec<u8>, number: u64) -> Vec<u8> {
+    triple(subj, con(pred), obj, ann_var(number))
+}
+
+/// The lamps of a class, and the vans they are on: the second part knows its subject.
+fn on_vans() -> Vec<u8> {
+    both(part(var(0), TYPE, con(103), 0), part(var(0), 20, var(1), 1))
+}
+
+/// The lamps on a van, and the classes that lie within theirs: the second part knows its object.
+fn by_object() -> Vec<u8> {
+    both(part(var(0), TYPE, con(103), 0), part(var(1), TYPE, con(104), 1))
+}
+
+/// The lamps of a class, what it lies within, and the vans they are on.
+fn three() -> Vec<u8> {
+    let class = both(part(var(0), TYPE, var(1), 0), part(var(1), SC, con(503), 1));
+    both(class, part(var(0), 20, var(2), 2))
+}
+
+fn two_joins() -> Vec<u8> {
+    either(on_vans(), both(part(var(0), 20, con(3007), 0), part(var(0), TYPE, var(1), 1)))
+}
+
+fn ratio_line(name: &str, size: usize, proved: f64, plain: f64) {
+    println!("{name:28} {size:6} {proved:12.1} {plain:12.1} {:8.2}", proved / plain);
+}
+
+fn measure_asking(name: &str, rows: u16, bytes: &[u8]) {
+    let rows = annotated(1, &workshop(rows));
+    let mut lanes = Lanes::zero(rows.len());
+    table::fill(&mut lanes, &rows);
+    let mut steps = vec![Step::default(); MOST_STEPS];
+    let step_count = question::compile(1, bytes, &mut steps).steps;
+    steps.truncate(step_count);
+    let (mut terms, mut anns) = (vec![0; TERMS * MOST_ANSWERS], vec![0; ANNS * MOST_ANSWERS]);
+    let running = Running {
+        kind: 1,
+        lanes,
+        count: rows.len(),
+        steps,
+        step_count,
+        allowed: u32::MAX,
+        terms: Vec::new(),
+        anns: Vec::new(),
+    };
+    let part = question::parse(1, bytes).expect("the question is good");
+    let plain_answers = asking::ask(1, &rows, &part);
+    let ran = calls::run(&running, &mut terms, &mut anns);
+    assert_eq!((ran.number, ran.answers), (0, plain_answers.answers.len()), "{name}");
+    assert_eq!(u64::from(ran.looks), plain_answers.looks, "{name}");
+    let proved = best(|| {
+        black_box(calls::run(&running, &mut terms, &mut anns));
+    });
+    let plain = best(|| {
+        black_box(asking::ask(1, black_box(&rows), &part));
+    });
+    let name = format!("{name}, {} answers", ran.answers);
+    ratio_line(&name, rows.len(), proved, plain);
+}
+
+fn measure_reading(rows: u16) {
+    let mut rows = annotated(3, &workshop(rows));
+    // Not in table order: every third row first.
+    rows.sort_by_key(|((subj, ..), _)| subj % 3);
+    let bytes = book::bytes_of(3, 0, &rows);
+    let mut lanes = Lanes::zero(1024);
+    let proved = best(|| {
+        black_box(calls::read(black_box(&bytes), &mut lanes));
+    });
+    let plain = best(|| {
+        black_box(book::read(black_box(&bytes), &mut lanes));
+    });
+    ratio_line("reading", rows.len(), proved, plain);
+}
+
+fn measure_compiling(name: &str, bytes: &[u8]) {
+    let mut records = questions::marked(MOST_STEPS);
+    let mut steps = vec![Step::default(); MOST_STEPS];
+    let proved = best(|| {
+        black_box(calls::compile(1, black_box(bytes), &mut records));
+    });
+    let plain = best(|| {
+        black_box(question::compile(1, black_box(bytes), &mut steps));
+    });
+    ratio_line(name, bytes.len(), proved, plain);
+}
+
 fn main() {
     println!("table  kind  rows  closed  rounds   drawn   proved, us    plain, us    ratio");
     for (name, triples) in [("chain", chain()), ("types", types()), ("web", web())] {
@@ -112,4 +215,16 @@ fn main() {
             measure(name, kind, &triples);
         }
     }
+    println!("\nwhat                           size   proved, us    plain, us    ratio");
+    for rows in [100, 300, 1000] {
+        measure_asking("join on the subject", rows, &on_vans());
+        measure_asking("join of all with all", rows, &by_object());
+        measure_asking("three parts", rows, &three());
+        measure_asking("either of two joins", rows, &two_joins());
+    }
+    for rows in [100, 300, 1000] {
+        measure_reading(rows);
+    }
+    measure_compiling("compiling two parts", &on_vans());
+    measure_compiling("compiling either", &two_joins());
 }

@@ -16,8 +16,8 @@ returns c =
     let the-if1 = c .if1 in
     field-refused (the-args .kind) (the-args .book .now) (the-args .at) (lanes (the-args .subj .now) (the-args .pred .now) (the-args .obj .now) (the-args .ann .now)) (the-args .count) (the-pre) _ _ (the-content-at .ensures) (the-if1 .taken)
 
-put-requires : tie.Need-put-requires
-put-requires c κs =
+put-found-requires : tie.Need-put-found-requires
+put-found-requires c κs =
     let the-args = c .before .before .before .before .before .before .before .before .before .before .before .before .args in
     let the-pre = c .before .before .before .before .before .before .before .before .before .before .before .before .pre in
     let the-content-at = c .before .before .before .before .before .before .content-at in
@@ -45,7 +45,7 @@ returns-2 c =
     let the-pre = c .before .before .before .before .before .before .before .before .before .before .before .before .before .before .before .before .before .before .before .before .before .before .pre in
     let the-content-at = c .before .before .before .before .before .before .before .before .before .before .before .before .before .before .before .before .content-at in
     let the-if1 = c .before .before .before .before .before .before .before .before .before .before .before .before .before .before .if1 in
-    let the-put = c .before .before .before .before .before .before .before .before .before .put in
+    let the-put = c .before .before .before .before .before .before .before .before .before .put-found in
     let the-room-number = c .room-number in
     field-put (the-args .kind) (the-args .book .now) (the-args .at) (lanes (the-args .subj .now) (the-args .pred .now) (the-args .obj .now) (the-args .ann .now)) (the-args .count) (the-pre) _ _ (the-content-at .ensures) (the-if1 .left) _ (the-put .result .full) (the-put .result .changed) _ _ (the-put .ensures) (the-room-number .ensures)
 
@@ -55,7 +55,7 @@ read-field-spec =
     (tie.spec
     content-at-requires
     returns
-    put-requires
+    put-found-requires
     room-number-requires
     same-length
     same-length-2
