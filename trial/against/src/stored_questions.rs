@@ -6,50 +6,50 @@
 /// A name, a kind, the bytes, and the number and place that compiling must give.
 pub type Question = (&'static str, u8, Vec<u8>, u32, u64);
 
-const BOTH: u8 = 17;
-const EITHER: u8 = 18;
+pub const BOTH: u8 = 17;
+pub const EITHER: u8 = 18;
 const ONLY: u8 = 19;
 
-fn con(value: u16) -> [u8; 3] {
+pub fn con(value: u16) -> [u8; 3] {
     let [high, low] = value.to_be_bytes();
     [0, high, low]
 }
 
-fn var(value: u16) -> [u8; 3] {
+pub fn var(value: u16) -> [u8; 3] {
     let [high, low] = value.to_be_bytes();
     [1, high, low]
 }
 
-fn ann(mark: u8, value: u64) -> Vec<u8> {
+pub fn ann(mark: u8, value: u64) -> Vec<u8> {
     [&[mark][..], &value.to_be_bytes()].concat()
 }
 
 /// 21 bytes.
-fn triple(s: [u8; 3], p: [u8; 3], o: [u8; 3], a: &[u8]) -> Vec<u8> {
+pub fn triple(s: [u8; 3], p: [u8; 3], o: [u8; 3], a: &[u8]) -> Vec<u8> {
     [&[16, 0, 18][..], &s, &p, &o, a].concat()
 }
 
 /// (?term type 11):?ann
-fn lamp(term: u16, annotation: u64) -> Vec<u8> {
+pub fn lamp(term: u16, annotation: u64) -> Vec<u8> {
     triple(var(term), con(2), con(11), &ann(1, annotation))
 }
 
-fn holder(tag: u8, held: &[&[u8]]) -> Vec<u8> {
+pub fn holder(tag: u8, held: &[&[u8]]) -> Vec<u8> {
     let value = held.concat();
     [&[tag][..], &(value.len() as u16).to_be_bytes(), &value].concat()
 }
 
 /// 10 bytes.
-fn terms(mark: u8, x: [u8; 3], y: [u8; 3]) -> Vec<u8> {
+pub fn terms(mark: u8, x: [u8; 3], y: [u8; 3]) -> Vec<u8> {
     [&[20, 0, 7, mark][..], &x, &y].concat()
 }
 
 /// 14 bytes.
-fn least(variable: u16, constant: u64) -> Vec<u8> {
+pub fn least(variable: u16, constant: u64) -> Vec<u8> {
     [&[20, 0, 11, 2][..], &variable.to_be_bytes(), &constant.to_be_bytes()].concat()
 }
 
-fn only(part: &[u8], test: &[u8]) -> Vec<u8> {
+pub fn only(part: &[u8], test: &[u8]) -> Vec<u8> {
     holder(ONLY, &[part, test])
 }
 

@@ -1,7 +1,7 @@
 //! Runs and the counter's program against the model, and the document's examples.
 
 use against::runs::{self, Running};
-use against::{asked, run, stored};
+use against::{asked, run, stored, stored_questions};
 use std::path::PathBuf;
 use std::time::Instant;
 use trial::question::Slot;
@@ -68,7 +68,7 @@ fn forks_that_lead_nowhere_end_at_once() {
 #[test]
 fn p11_with_every_number_of_looks() {
     let mut steps = vec![Step::default(); 48];
-    let compiled = trial::question::compile(1, &asked::p11(), &mut steps);
+    let compiled = trial::question::compile(1, &stored_questions::p11(), &mut steps);
     steps.truncate(compiled.steps);
     for allowed in 0..8 {
         let (ran, terms, anns) = ran(&p1_closed(steps.clone(), allowed));
