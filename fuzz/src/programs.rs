@@ -137,15 +137,20 @@ fn answer(line: &str) -> Result<(), Fault> {
     })
 }
 
-/// The looks a question may take, and the questions to one table, in input that is worth its time.
+/// The questions to one table, and the looks each may take, in input that is worth its time.
+const FEW_QUESTIONS: usize = 32;
 const FEW_LOOKS: u32 = 200_000;
-const FEW_LINES: usize = 64;
 
-/// The document allows a question 4,294,967,295 looks, and the table is closed anew for each: such
-/// input is no hang and is passed over.
+/// The document allows a question 4,294,967,295 looks, and the table is closed anew for each: input
+/// that takes long by that is no hang and is passed over.
 fn few_looks(input: &[u8]) -> bool {
-    let text = programs::counter_with_looks(input, FEW_LOOKS);
-    let asked = text.lines().filter(|line| line.starts_with("asked "));
-    let few = asked.clone().count() <= FEW_LINES;
-    few && asked.clone().all(|line| !line.starts_with("asked 24 "))
+    let mut rest = input;
+    let mut behind_lengths = 0;
+    while let [high, low, next @ ..] = rest {
+        let length = usize::from(*high) * 256 + usize::from(*low);
+        rest = next.get(length..).unwrap_or_default();
+        behind_lengths += 1;
+    }
+    let dear = || programs::counter_with_looks(input, FEW_LOOKS);
+    behind_lengths <= FEW_QUESTIONS + 1 && !dear().lines().any(|line| line.starts_with("asked 24 "))
 }
