@@ -1,5 +1,5 @@
 # `make run` proves the closing program and runs it on a sample book; `make test` is the gate.
-.PHONY: run test host fitting bench soak
+.PHONY: run test host fitting bench soak fuzz
 
 run:
 	rt check close_book
@@ -25,6 +25,10 @@ SEED ?= 1000000
 soak:
 	rt staticlib trial_calls
 	cd trial && CARGO_TARGET_DIR=../target/trial cargo run --release --offline --quiet --package against --bin soak -- $(MINUTES) $(SEED)
+
+# Arbitrary bytes to the exported call and the programs, for MINUTES (fuzz/README.md).
+fuzz:
+	fuzz/run $(MINUTES)
 
 # Closing beside a plain Rust closure with hash maps.
 bench:

@@ -32,6 +32,11 @@ fn refused(number: u32, place: u64) -> String {
 
 /// The counter's program: a book, then questions to the end, each behind a length.
 pub fn counter_program(input: &[u8]) -> String {
+    counter_with_looks(input, u32::MAX)
+}
+
+/// The same with fewer looks allowed to each question: 24 tells what would take long.
+pub fn counter_with_looks(input: &[u8], looks: u32) -> String {
     let Some((book, mut rest)) = behind_length(input) else {
         return refused(1, 0);
     };
@@ -52,7 +57,7 @@ pub fn counter_program(input: &[u8]) -> String {
             return text + &refused(closed.number, closed.place);
         }
         count = closed.count;
-        text += &ask(read.kind, &lanes, count, question);
+        text += &ask(read.kind, &lanes, count, question, looks);
         rest = next;
     }
     text
@@ -68,7 +73,7 @@ fn behind_length(input: &[u8]) -> Option<(&[u8], &[u8])> {
 }
 
 /// One question: its `asked` line and its answers.
-fn ask(kind: u8, lanes: &Lanes, count: usize, question: &[u8]) -> String {
+fn ask(kind: u8, lanes: &Lanes, count: usize, question: &[u8], looks: u32) -> String {
     let mut records = [Step::default(); MOST_STEPS];
     let compiled = question::compile(kind, question, &mut records);
     if compiled.number != 0 {
@@ -77,7 +82,7 @@ fn ask(kind: u8, lanes: &Lanes, count: usize, question: &[u8]) -> String {
     let mut terms = [0; TERMS * MOST_ANSWERS];
     let mut anns = [0; ANNS * MOST_ANSWERS];
     let steps = compiled.steps;
-    let ran = steps::run(kind, lanes, count, &records, steps, u32::MAX, &mut terms, &mut anns);
+    let ran = steps::run(kind, lanes, count, &records, steps, looks, &mut terms, &mut anns);
     let mut text = format!("asked {} {} {} {}\n", ran.number, ran.place, ran.answers, ran.looks);
     for (terms, anns) in terms.chunks(TERMS).zip(anns.chunks(ANNS)).take(ran.answers) {
         let mut numbers: Vec<String> = terms.iter().map(u16::to_string).collect();

@@ -1,0 +1,8 @@
+//! Where the replay finds the static library that `rt staticlib trackvesper` writes.
+
+fn main() {
+    let here = std::env::var("CARGO_MANIFEST_DIR").unwrap();
+    let folder = format!("{here}/../target/staticlib");
+    println!("cargo:rustc-link-search=native={folder}");
+    println!("cargo:rerun-if-changed={folder}/libtrackvesper.a");
+}
