@@ -6,15 +6,15 @@
 //! the plainest way (every conclusion of every rule, round by round), which is what the proved
 //! closing does at most.
 
-use against::asked::{ann_var, both, con, either, triple, var};
 use against::runs::Running;
+use against::stored_questions::{ann, con, holder, triple, var, BOTH, EITHER};
 use against::{asking, baseline, calls, questions};
 use std::hint::black_box;
 use std::time::Instant;
 use trial::steps::{Step, ANNS, MOST_ANSWERS, MOST_STEPS, TERMS};
-use trial::{book, closing, question};
 use trial::table::{self, Lanes, Row, Triple};
 use trial::term::{DOM, RANGE, SC, SP, TYPE};
+use trial::{book, closing, question};
 
 fn annotated(kind: u8, triples: &[Triple]) -> Vec<Row> {
     let mut triples = triples.to_vec();
@@ -120,8 +120,12 @@ fn workshop(rows: u16) -> Vec<Triple> {
 }
 
 /// (s p o) with its annotation in a variable of its own number.
-fn part(subj: Vec<u8>, pred: u16, obj: Vec<u8>, number: u64) -> Vec<u8> {
-    triple(subj, con(pred), obj, ann_var(number))
+fn part(subj: [u8; 3], pred: u16, obj: [u8; 3], number: u64) -> Vec<u8> {
+    triple(subj, con(pred), obj, &ann(1, number))
+}
+
+fn both(left: Vec<u8>, right: Vec<u8>) -> Vec<u8> {
+    holder(BOTH, &[&left, &right])
 }
 
 /// The lamps of a class, and the vans they are on: the second part knows its subject.
@@ -129,8 +133,8 @@ fn on_vans() -> Vec<u8> {
     both(part(var(0), TYPE, con(103), 0), part(var(0), 20, var(1), 1))
 }
 
-/// The lamps on a van, and the classes that lie within theirs: the second part knows its object.
-fn by_object() -> Vec<u8> {
+/// The lamps of one class, each with every lamp of another: no part knows its subject.
+fn all_with_all() -> Vec<u8> {
     both(part(var(0), TYPE, con(103), 0), part(var(1), TYPE, con(104), 1))
 }
 
@@ -141,7 +145,8 @@ fn three() -> Vec<u8> {
 }
 
 fn two_joins() -> Vec<u8> {
-    either(on_vans(), both(part(var(0), 20, con(3007), 0), part(var(0), TYPE, var(1), 1)))
+    let on_one_van = both(part(var(0), 20, con(3007), 0), part(var(0), TYPE, var(1), 1));
+    holder(EITHER, &[&on_vans(), &on_one_van])
 }
 
 fn ratio_line(name: &str, size: usize, proved: f64, plain: f64) {
@@ -218,7 +223,7 @@ fn main() {
     println!("\nwhat                           size   proved, us    plain, us    ratio");
     for rows in [100, 300, 1000] {
         measure_asking("join on the subject", rows, &on_vans());
-        measure_asking("join of all with all", rows, &by_object());
+        measure_asking("join of all with all", rows, &all_with_all());
         measure_asking("three parts", rows, &three());
         measure_asking("either of two joins", rows, &two_joins());
     }
