@@ -1,9 +1,12 @@
-# `make run` proves the closing program and runs it on a sample book; `make test` is the gate.
+# `make run` proves the two programs and runs them on the samples; `make test` is the gate.
 .PHONY: run test host fitting bench soak fuzz
 
-run:
-	rt check close_book
+run: fitting
+	rt check close_book counter
 	target/bin/close_book < examples/p1.book
+	target/bin/counter < crates/counter/stdin
+	target/fitting/release/fitting close examples/lamps.fit
+	target/fitting/release/fitting ask examples/lamps.fit
 
 test:
 	.ci/run
@@ -30,7 +33,7 @@ soak:
 fuzz:
 	fuzz/run $(MINUTES)
 
-# Closing beside a plain Rust closure with hash maps.
+# Closing, running, reading and compiling beside plain Rust (docs/BENCHMARKS.md).
 bench:
 	rt staticlib trial_calls
 	cd trial && CARGO_TARGET_DIR=../target/trial cargo run --release --offline --quiet --package against --bin bench
