@@ -24,7 +24,7 @@ degree = record { Value = λ a. a ≤ 1000; meet = min; join = max; top = 1000 }
 abbrev pub strict : Algebra
 strict = record { Value = λ a. a ≤ 1000; meet = λ a b. a + b - 1000; join = max; top = 1000 }
 
--- (a kind past 4 is refused before its algebra matters)
+-- (0, and a kind past 4, is refused before its algebra matters)
 unfoldable pub algebra : ℕ → Algebra
 algebra kind = cond (eqb kind 1) years (cond (eqb kind 2) sheets (cond (eqb kind 3) degree strict))
 

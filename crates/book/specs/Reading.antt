@@ -43,7 +43,7 @@ abbrev pub stepChecks : ℕ → List ℕ → ℕ → ℕ → List Row → List C
 stepChecks kind b room at rows =
     fieldChecks kind b at ++ (refuse (ltb room (length (addRow (algebra kind) (rowIn b at) rows))) 12 at ∷ [])
 
--- "field by field"; "Order is free and equal triples join". A field is 17 bytes, so there are fewer than bytes.
+-- "field by field"; "Order is free and equal triples join". A field is 17 bytes, so there are fewer fields than bytes.
 unfoldable pub fieldsFrom : ℕ → ℕ → ℕ → List ℕ → ℕ → ℕ → List Row → Read
 fieldsFrom zero kind base b room at rows = readAs kind base rows
 fieldsFrom (suc fuel) kind base b room at rows =
@@ -63,7 +63,7 @@ lendChecks b l = refuse (isUnfit l) 11 0 ∷ refuse (ltb 65535 (length b)) 13 0 
 abbrev pub reading : List ℕ → Lanes → Read
 reading b l = whenDone (first (lendChecks b l)) (λ _. readBook b (length (l .subj)))
 
--- "11, 13 change nothing"; "Other refusals of reading leave all rows zero and count 0"; "rows past the count are all zero"
+-- "11, 13 .. change nothing"; "Other refusals of reading .. leave all rows zero and count 0"; "rows past the count are all zero"
 pub record Reading (b : List ℕ) (l m : Lanes) (number place kind base count : ℕ) : Type 0 where
   pub verdict-is : verdict number place ≡ reading b l .verdict-of
   pub kind-is : kind ≡ reading b l .kind

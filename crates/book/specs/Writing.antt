@@ -26,7 +26,7 @@ writeChecks kind base l n room =
 abbrev pub writeDone : ℕ → ℕ → Lanes → ℕ → ℕ → Bool
 writeDone kind base l n room = eqb (first (writeChecks kind base l n room) .number) 0
 
--- "The writer gives rows in table order"; "every refusal of writing changes nothing"; "a done writing leaves the bytes past its length"
+-- "The writer gives rows in table order"; "every refusal of .. writing .. change nothing"; "a done writing leaves the bytes past its length"
 pub record Writing (kind base : ℕ) (l : Lanes) (n : ℕ) (out out′ : List ℕ) (number place size : ℕ) : Type 0 where
   pub verdict-is : verdict number place ≡ first (writeChecks kind base l n (length out))
   pub length-is : size ≡ cond (writeDone kind base l n (length out)) (bookLength n) 0

@@ -14,9 +14,9 @@ pub record Closing (kind : ℕ) (l : Lanes) (n : ℕ) (m : Lanes) (number place 
   -- "Other refusals of closing change nothing"
   pub refused : 0 < first (tableChecks kind l n) .number
       → (verdict number place ≡ first (tableChecks kind l n)) × (m ≡ l) × (count ≡ n)
-  -- "After closing, rows past the count are all zero"
+  -- "After closing .., rows past the count are all zero"
   pub fits : Sound kind l n → (closed : List Row) → ClosureOf kind Rule (rowsOf l n) closed → length closed ≤ length (l .subj)
       → (verdict number place ≡ done) × (m ≡ filled closed l) × (count ≡ length closed)
-  -- "12: no room"; "12 from closing leaves all rows zero and count 0"
+  -- "12: no room"; "12 from closing, leave all rows zero and count 0"
   pub no-room : Sound kind l n → (closed : List Row) → ClosureOf kind Rule (rowsOf l n) closed → length (l .subj) < length closed
       → (verdict number place ≡ verdict 12 0) × (m ≡ zeroed l) × (count ≡ 0)

@@ -125,7 +125,7 @@ pub record FurtherDrawn (kind : ℕ) (plan : Plan) (l : Lanes) (n i : ℕ) (m : 
   pub step : Step kind l n m full changed n′
   pub inside : full ≡ false → changed ≡ false → FurtherIn kind plan l n i
 
--- row i obeys every rule in the graph G
+-- row i obeys every rule in the table's graph
 abbrev pub RowObeyed : ℕ → Lanes → ℕ → ℕ → Type 0
 RowObeyed kind l n i = (rule : ℕ) → rule < 8 → Obeyed (algebra kind) (graphOf (rowsOf l n)) (planOf rule (rowAt l i .s) (rowAt l i .p) (rowAt l i .o) (rowAt l i .a))
 

@@ -16,7 +16,7 @@ graphOf rows = valueAt rows
 pub record Valued (K : Algebra) (G : Graph) : Type 0 where
   pub value : (t : Triple) → K .Value (G t)
 
--- G is at most H, triple by triple: "H is at or above G"
+-- G is at most H, triple by triple: H is "at or above" G
 pub record Below (K : Algebra) (G H : Graph) : Type 0 where
   pub below : (t : Triple) → AtMost K (G t) (H t)
 

@@ -6,14 +6,15 @@ use Prim.Native.Nat.{ℕ}
 use Rattle.term.specs.Term.{sp, sc, type, dom, range, isName}
 use Rattle.table.specs.Rows.{Triple, triple}
 
--- a set of rules: which premises give which conclusion
+-- a set of rules: which premises give which conclusion. "Rule 6: equal triples join" has no line: a graph has one value a triple, and a value
+-- that two conclusions are at most is at or above their join
 abbrev pub Rules : Type 1
 Rules = List Triple → Triple → Type 0
 
 pub data Rule : List Triple → Triple → Type 0 where
-  -- "2a (A sp B), (B sp C) gives (A sp C)"
+  -- "2a (A sp B):l, (B sp C):m gives (A sp C)"
   r2a : (a b c : ℕ) → Rule (triple a sp b ∷ triple b sp c ∷ []) (triple a sp c)
-  -- "2b (D sp E), (X D Y) gives (X E Y)"
+  -- "2b (D sp E):l, (X D Y):m gives (X E Y)"
   r2b : (d e x y : ℕ) → Rule (triple d sp e ∷ triple x d y ∷ []) (triple x e y)
   -- "3a (A sc B), (B sc C) gives (A sc C)"
   r3a : (a b c : ℕ) → Rule (triple a sc b ∷ triple b sc c ∷ []) (triple a sc c)
@@ -28,6 +29,6 @@ pub data Rule : List Triple → Triple → Type 0 where
   -- "5b the same with range and (Y type B)"
   r5b : (a b d x y : ℕ) → Rule (triple a range b ∷ triple d sp a ∷ triple x d y ∷ []) (triple y type b)
 
--- "A conclusion whose predicate isn't a name is not drawn" (nor one whose annotation is 0, which is at most anything)
+-- "A conclusion whose predicate isn't a name, or whose annotation is 0, is not drawn": 0 is at most anything, so it needs no line
 abbrev pub Drawn : Triple → Type 0
 Drawn t = isName (t .p) ≡ true

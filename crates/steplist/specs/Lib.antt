@@ -1,2 +1,3 @@
+-- The definitions that the contracts of `steplist`, and the third condition for the public calls, cite.
 pub mod Filling
 pub mod Over

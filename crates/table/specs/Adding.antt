@@ -24,7 +24,7 @@ addChecks kind r l n =
 abbrev pub addDone : ℕ → Row → Lanes → ℕ → Bool
 addDone kind r l n = eqb (first (addChecks kind r l n) .number) 0
 
--- "every refusal of adding changes nothing"; "adding touches no row past its new count"
+-- "every refusal of adding .. change nothing"; "Adding touches no row past its new count"
 pub record Adding (kind : ℕ) (r : Row) (l : Lanes) (n : ℕ) (m : Lanes) (number place count : ℕ) : Type 0 where
   pub verdict-is : verdict number place ≡ first (addChecks kind r l n)
   pub count-is : count ≡ cond (addDone kind r l n) (length (rowsWith kind r l n)) n

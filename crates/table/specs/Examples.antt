@@ -1,4 +1,4 @@
--- The document's bench examples that the definitions so far can say, each a statement.
+-- The document's bench example on adding, P2. The crates above have the others; `meaning` has the list of all twelve.
 use mathlib.Core.Path.{_≡_}
 use mathlib.Core.List.{List, [], _∷_}
 use Rattle.annotation.specs.Kinds.{algebra}

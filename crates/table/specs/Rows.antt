@@ -31,7 +31,7 @@ keyOf s p o = s * 4294967296 + p * 65536 + o
 abbrev pub key : Row → ℕ
 key r = keyOf (r .s) (r .p) (r .o)
 
--- "four lanes (subject, predicate, object, annotation)"
+-- "four lanes .. (subject, predicate, object as 16-bit numbers, annotation as 64-bit)"
 pub record Lanes : Type 0 where
   pub subj : List ℕ
   pub pred : List ℕ

@@ -8,14 +8,14 @@ use Rattle.term.specs.Term.{isLegalTerm, isName}
 use Rattle.annotation.specs.Kinds.{isLegal}
 use Rattle.table.specs.Rows.{Row, Lanes, rowAt, key}
 
--- "Subject and object are of sorts 0 to 2; a predicate is a name"; its annotation is legal
+-- "Subject and object are of sorts 0 to 2 ..; a predicate is a name"; its annotation is legal
 pub record LegalRow (kind : ℕ) (r : Row) : Type 0 where
   pub subject : isLegalTerm (r .s) ≡ true
   pub predicate : isName (r .p) ≡ true
   pub object : isLegalTerm (r .o) ≡ true
   pub annotation : isLegal kind (r .a) ≡ true
 
--- "A table is four lanes of equal length, at most 1,024, and a count.
+-- "A table is four lanes of equal length, at most 1,024 .., and a count.
 -- The first 'count' rows are legal and strictly ascending by subject, then predicate, then object."
 pub record Sound (kind : ℕ) (l : Lanes) (n : ℕ) : Type 0 where
   pub kind-from : 1 ≤ kind

@@ -22,7 +22,7 @@ said b = reading b blank
 abbrev pub packed : ℕ → ℕ → ℕ
 packed number rest = number * 4294967296 + rest
 
--- "one exported call takes a book and writes the closed book; on refusal its output bytes are untouched"
+-- "one exported call takes a book and writes the closed book"; "on refusal its output bytes are untouched"
 pub record ClosedBook (b out out′ : List ℕ) (r : ℕ) : Type 0 where
   -- the book is refused
   pub unread : 0 < said b .verdict-of .number → (r ≡ packed (said b .verdict-of .number) (said b .verdict-of .place)) × (out′ ≡ out)
