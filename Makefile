@@ -13,7 +13,7 @@ test:
 
 # The C host over the exported call.
 host:
-	test -f target/staticlib/libtrackvesper.a || rt staticlib trackvesper
+	rt staticlib trackvesper
 	mkdir -p target/host
 	cc -std=c11 -Wall -Wextra -Werror -O2 -o target/host/close_book examples/close_book.c target/staticlib/libtrackvesper.a
 
