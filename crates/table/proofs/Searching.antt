@@ -6,7 +6,7 @@ use native.Mathlib.Omega.{arith}
 use lib.ListN.{length, getD}
 use Rattle.table.specs.Rows.{Lanes, lanes, row, triple, keyOf, keyAt, rowAt, rowsOf, valueAt}
 use Rattle.table.specs.Sound.{Sound}
-use Rattle.table.specs.Places.{Ordered, Placed, Halving, Halved}
+use Rattle.table.specs.Places.{Ordered, Placed, Between, Halving, Halved}
 use Rattle.table.proofs.Ordering.{Tri, less, same, more, tri, climbs}
 use Rattle.table.proofs.Values.{Small, legal-small, key-tells, is-triple, value-at, value-missing}
 
@@ -21,27 +21,31 @@ module _ (S P O : List ℕ) (n k low high : ℕ) (h : Halving S P O n k low high
   up-to-middle q i w = go (tri i middle)
     where
       go : Tri i middle → keyAt S P O i < k
-      go (less z) = omega (arith, climbs n (keyAt S P O) (h .ordered .ascending) middle i z (omega (arith, h .some, h .within)), q)
+      go (less z) = omega (arith, climbs n (keyAt S P O) (h .ordered .ascending) middle i z (omega (arith, h .some, h .between .within)), q)
       go (same z) = rw z q
       go (more z) = absurd (omega arith)
 
   pub halved-up : keyAt S P O middle < k → Halved S P O n k low high (middle + 1) high
   halved-up q = record {
-    kept = omega (arith, h .some);
-    within = h .within;
     fewer = omega (arith, h .some);
-    before = up-to-middle q;
-    reached = h .reached;
+    between = record { kept = omega (arith, h .some); within = h .between .within; before = up-to-middle q; reached = h .between .reached };
   }
 
   pub halved-down : k ≤ keyAt S P O middle → Halved S P O n k low high low middle
   halved-down q = record {
-    kept = omega arith;
-    within = omega (arith, h .some, h .within);
     fewer = omega (arith, h .some);
-    before = h .before;
-    reached = λ z. q;
+    between = record { kept = omega arith; within = omega (arith, h .some, h .between .within); before = h .between .before; reached = λ z. q };
   }
+
+-- a key behind the last row is behind all
+module _ (S P O : List ℕ) (n k : ℕ) where
+  pub between-past : Ordered S P O n → 0 < n → keyAt S P O (n - 1) < k → Between S P O n k n n
+  between-past h s q = record { kept = omega arith; within = omega arith; before = λ i w. up i w (tri i (n - 1)); reached = λ z. absurd (omega arith) }
+    where
+      up : (i : ℕ) → i < n → Tri i (n - 1) → keyAt S P O i < k
+      up i w (less z) = omega (arith, climbs n (keyAt S P O) (h .ascending) (n - 1) i z (omega (arith, s)), q)
+      up i w (same z) = rw z q
+      up i w (more z) = absurd (omega arith)
 
 -- the annotation of a triple, by the place of its key
 module _ (kind : ℕ) (S P O A : List ℕ) (n s p o at : ℕ) (ss : s < 65536) (sp : p < 65536) (so : o < 65536)

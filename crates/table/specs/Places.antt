@@ -43,17 +43,19 @@ pub record Stands (subj pred obj : List ℕ) (n at k : ℕ) (r : Bool) : Type 0 
   pub there : r ≡ true → (at < n) × (k ≡ keyAt subj pred obj at)
   pub missing : r ≡ false → at < n → k ≡ keyAt subj pred obj at → ⊥
 
--- halving: what is left out below is below k, and what is left out above is not
-pub record Halving (subj pred obj : List ℕ) (n k low high : ℕ) : Type 0 where
-  pub ordered : Ordered subj pred obj n
-  pub some : low < high
+-- rows low up to high are in question: what is left out before them is below k, and what is left out behind them is not
+pub record Between (subj pred obj : List ℕ) (n k low high : ℕ) : Type 0 where
+  pub kept : low ≤ high
   pub within : high ≤ n
   pub before : (i : ℕ) → i < low → keyAt subj pred obj i < k
   pub reached : high < n → k ≤ keyAt subj pred obj high
 
+-- a halving of some rows leaves fewer
+pub record Halving (subj pred obj : List ℕ) (n k low high : ℕ) : Type 0 where
+  pub ordered : Ordered subj pred obj n
+  pub some : low < high
+  pub between : Between subj pred obj n k low high
+
 pub record Halved (subj pred obj : List ℕ) (n k low high low′ high′ : ℕ) : Type 0 where
-  pub kept : low′ ≤ high′
-  pub within : high′ ≤ n
   pub fewer : high′ - low′ < high - low
-  pub before : (i : ℕ) → i < low′ → keyAt subj pred obj i < k
-  pub reached : high′ < n → k ≤ keyAt subj pred obj high′
+  pub between : Between subj pred obj n k low′ high′

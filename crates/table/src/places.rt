@@ -2,7 +2,7 @@
 ghost use mathlib.Core.Path.{_≡_};
 ghost use Rattle.table.specs.Rows.{lanes, rowsOf, valueAt, triple};
 ghost use Rattle.table.specs.Sound.{Sound};
-ghost use Rattle.table.specs.Places.{Ordered, Placed, Stands, Halving, Halved};
+ghost use Rattle.table.specs.Places.{Ordered, Placed, Stands, Between, Halving, Halved};
 use crate::rows::key_at;
 use crate::rows::key_of;
 
@@ -33,9 +33,33 @@ pub fn stands(subj: &[u16], pred: &[u16], obj: &[u16], count: usize, at: usize, 
 }
 
 // Rows low up to high are still in question.
-pub struct Between {
+pub struct InQuestion {
     pub low: usize,
     pub high: usize,
+}
+
+// All rows are in question, but for a key that is at or before the first row, or behind the last: a look at each tells. The words sp to
+// range stand before most rows, and a book in table order brings every row behind the last.
+fn in_question(subj: &[u16], pred: &[u16], obj: &[u16], count: usize, key: u64) -> InQuestion
+    requires { ⌜ Ordered (now subj) (now pred) (now obj) count ⌝ }
+    ensures { λ r. ⌜ Between (now (subj .entry)) (now (pred .entry)) (now (obj .entry)) count key (r .low) (r .high) ⌝ }
+{
+    if count == 0 {
+        return InQuestion { low: 0, high: 0 };
+    }
+    if key <= key_at(subj, pred, obj, 0) {
+        return InQuestion { low: 0, high: 0 };
+    }
+    if key_at(subj, pred, obj, count - 1) < key {
+        return InQuestion {
+            low: count,
+            high: count,
+        };
+    }
+    InQuestion {
+        low: 0,
+        high: count,
+    }
 }
 
 // One halving: the row in the middle tells which half to leave.
@@ -47,18 +71,18 @@ fn halve(
     key: u64,
     low: usize,
     high: usize,
-) -> Between
+) -> InQuestion
     requires { ⌜ Halving (now subj) (now pred) (now obj) count key low high ⌝ }
     ensures { λ r. ⌜ Halved (now (subj .entry)) (now (pred .entry)) (now (obj .entry)) count key low high (r .low) (r .high) ⌝ }
 {
     let middle = low + (high - low) / 2;
     if key_at(subj, pred, obj, middle) < key {
-        return Between {
+        return InQuestion {
             low: middle + 1,
             high,
         };
     }
-    Between { low, high: middle }
+    InQuestion { low, high: middle }
 }
 
 // The first row whose key is not below `key`, found by halving.
@@ -66,8 +90,9 @@ pub fn find(subj: &[u16], pred: &[u16], obj: &[u16], count: usize, key: u64) -> 
     requires { ⌜ Ordered (now subj) (now pred) (now obj) count ⌝ }
     ensures { λ r. ⌜ Placed (now (subj .entry)) (now (pred .entry)) (now (obj .entry)) count key r ⌝ }
 {
-    let mut low = 0;
-    let mut high = count;
+    let all = in_question(subj, pred, obj, count, key);
+    let mut low = all.low;
+    let mut high = all.high;
     while low < high {
         let next = halve(subj, pred, obj, count, key, low, high);
         low = next.low;

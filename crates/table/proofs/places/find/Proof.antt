@@ -2,37 +2,32 @@
 use mathlib.Core.Path.{_≡_}
 use Prim.Native.Nat.{ℕ, _≤_, _<_, _-_}
 use native.Mathlib.Omega.{arith}
-use borrow.Author.Needs.{needs}
-use borrow.Author.Count.{below-none}
-use Rattle.table.specs.Rows.{keyAt}
+use Rattle.table.specs.Places.{Between}
 use Rattle.table.proofs.places.find.Statement.{statement}
 use Rattle.table.proofs.places.find.Tie as tie
 
 abbrev Inv-loop : tie.InvT-loop
-Inv-loop subj pred obj count key low₀ high₀ low high =
-    (low ≤ high)
-    × (high ≤ count)
-    × ((i : ℕ) → i < low → keyAt subj pred obj i < key)
-    × (high < count → key ≤ keyAt subj pred obj high)
+Inv-loop subj pred obj count key low₀ high₀ low high = Between subj pred obj count key low high
 
 abbrev μ-loop : tie.MeasureT-loop
 μ-loop subj pred obj count key low₀ high₀ low high = high - low
 
+in-question-requires : tie.Need-in-question-requires Inv-loop μ-loop
+in-question-requires c κs =
+    let the-pre = c .before .before .before .pre in
+    the-pre
+
 loop-holds : tie.Need-loop-holds Inv-loop μ-loop
-loop-holds c = (search needs, search needs, below-none _, λ q. absurd (omega arith))
+loop-holds c =
+    let the-in-question = c .in-question in
+    the-in-question .ensures
 
 halve-requires : tie.Need-halve-requires Inv-loop μ-loop
 halve-requires c κs =
-    let the-pre = c .before .before .before .before .before .pre in
+    let the-pre = c .before .before .before .before .before .before .pre in
     let the-loop-test = c .loop-test in
     let the-loop = c .before .loop in
-    record {
-      ordered = the-pre;
-      some = the-loop-test .taken;
-      within = the-loop .inv .1;
-      before = the-loop .inv .2;
-      reached = the-loop .inv .3;
-    }
+    record { ordered = the-pre; some = the-loop-test .taken; between = the-loop .inv }
 
 loop-less : tie.Need-loop-less Inv-loop μ-loop
 loop-less c =
@@ -42,14 +37,14 @@ loop-less c =
 loop-again : tie.Need-loop-again Inv-loop μ-loop
 loop-again c =
     let the-halve = c .halve in
-    (the-halve .ensures .kept, the-halve .ensures .within, the-halve .ensures .before, the-halve .ensures .reached)
+    the-halve .ensures .between
 
 returns : tie.Need-returns Inv-loop μ-loop
 returns c =
     let the-loop = c .before .loop in
-    let e : the-loop .low ≡ the-loop .high = omega arith in
-    record { within = omega (arith, the-loop .inv .1); before = the-loop .inv .2; reached = λ q. rw e (the-loop .inv .3 (rw (← e) q)) }
+    let e : the-loop .low ≡ the-loop .high = omega (arith, the-loop .inv .kept) in
+    record { within = omega (arith, the-loop .inv .within); before = the-loop .inv .before; reached = λ q. rw e (the-loop .inv .reached (rw (← e) q)) }
 
 pub find-spec : {M : Type 1} → statement M
 find-spec =
-    tie.close (tie.spec Inv-loop μ-loop loop-holds halve-requires loop-less loop-again returns)
+    tie.close (tie.spec Inv-loop μ-loop in-question-requires loop-holds halve-requires loop-less loop-again returns)
