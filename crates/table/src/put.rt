@@ -66,21 +66,22 @@ fn put_at(
             count,
         };
     }
-    if count < subj.len() {
-        open_u16(subj, at, count, s);
-        open_u16(pred, at, count, p);
-        open_u16(obj, at, count, o);
-        open_u64(ann, at, count, a);
+    let more = count + 1;
+    if subj.len() < more {
         return PutDone {
-            full: false,
-            changed: true,
-            count: count + 1,
+            full: true,
+            changed: false,
+            count,
         };
     }
+    open_u16(subj, at, count, s);
+    open_u16(pred, at, count, p);
+    open_u16(obj, at, count, o);
+    open_u64(ann, at, count, a);
     PutDone {
-        full: true,
-        changed: false,
-        count,
+        full: false,
+        changed: true,
+        count: more,
     }
 }
 

@@ -42,6 +42,30 @@ returns c =
     (the-pre .into) (the-key-of .ensures) (rw (the-key-of .ensures) (the-pre .placed))
     _ _ (the-stands .ensures .there (the-if1 .taken) .0) (the-stands .ensures .there (the-if1 .taken) .1) (the-join-at .ensures)
 
+add-more : tie.Need-add-more
+add-more c = search needs
+
+same-length-5 : tie.Need-same-length-5
+same-length-5 c = search needs
+
+same-length-6 : tie.Need-same-length-6
+same-length-6 c = search needs
+
+same-length-7 : tie.Need-same-length-7
+same-length-7 c = search needs
+
+returns-2 : tie.Need-returns-2
+returns-2 c =
+    let the-args = c .before .before .before .before .before .before .before .before .before .before .before .args in
+    let the-key-of = c .before .before .before .before .before .before .key-of in
+    let the-pre = c .before .before .before .before .before .before .before .before .before .before .before .pre in
+    let the-stands = c .before .before .stands in
+    let the-if1 = c .before .if1 in
+    let the-if2 = c .if2 in
+    put-full (the-args .kind) (the-args .subj .now) (the-args .pred .now) (the-args .obj .now) (the-args .ann .now) (the-args .count) (the-args .s) (the-args .p) (the-args .o) (the-args .a) (the-key-of .result) (the-args .at)
+    (the-pre .into) (the-key-of .ensures) (rw (the-key-of .ensures) (the-pre .placed))
+    (the-stands .ensures .missing (the-if1 .left)) (omega (arith, the-if2 .taken))
+
 open-u16-requires : tie.Need-open-u16-requires
 open-u16-requires c κs = search needs
 
@@ -54,26 +78,20 @@ open-u16-requires-3 c κs = search needs
 open-u64-requires : tie.Need-open-u64-requires
 open-u64-requires c κs = search needs
 
-add-t34 : tie.Need-add-t34
-add-t34 c =
-    let the-if2 = c .before .before .before .before .before .before .before .before .before .before .before .before .before .before .before .before .if2 in
-    let the-good = c .before .before .before .before .before .before .before .before .before .before .before .before .before .before .before .before .before .before .before .before .before .before .before .before .before .before .before .good in
-    omega (arith, the-if2 .taken, the-good)
-
-same-length-5 : tie.Need-same-length-5
-same-length-5 c = search needs
-
-same-length-6 : tie.Need-same-length-6
-same-length-6 c = search needs
-
-same-length-7 : tie.Need-same-length-7
-same-length-7 c = search needs
-
 same-length-8 : tie.Need-same-length-8
 same-length-8 c = search needs
 
-returns-2 : tie.Need-returns-2
-returns-2 c =
+same-length-9 : tie.Need-same-length-9
+same-length-9 c = search needs
+
+same-length-10 : tie.Need-same-length-10
+same-length-10 c = search needs
+
+same-length-11 : tie.Need-same-length-11
+same-length-11 c = search needs
+
+returns-3 : tie.Need-returns-3
+returns-3 c =
     let the-open-u16 = c .before .before .before .before .before .before .before .before .before .before .before .before .before .before .open-u16 in
     let the-open-u162 = c .before .before .before .before .before .before .before .before .before .before .open-u162 in
     let the-open-u163 = c .before .before .before .before .before .before .open-u163 in
@@ -87,28 +105,7 @@ returns-2 c =
     rw (the-open-u16 .ensures, the-open-u162 .ensures, the-open-u163 .ensures, the-open-u64 .ensures)
     (put-in (the-args .kind) (the-args .subj .now) (the-args .pred .now) (the-args .obj .now) (the-args .ann .now) (the-args .count) (the-args .s) (the-args .p) (the-args .o) (the-args .a) (the-key-of .result) (the-args .at)
     (the-pre .into) (the-key-of .ensures) (rw (the-key-of .ensures) (the-pre .placed))
-    (the-stands .ensures .missing (the-if1 .left)) (the-if2 .taken))
-
-same-length-9 : tie.Need-same-length-9
-same-length-9 c = search needs
-
-same-length-10 : tie.Need-same-length-10
-same-length-10 c = search needs
-
-same-length-11 : tie.Need-same-length-11
-same-length-11 c = search needs
-
-returns-3 : tie.Need-returns-3
-returns-3 c =
-    let the-args = c .before .before .before .before .before .before .before .before .before .before .before .args in
-    let the-key-of = c .before .before .before .before .before .before .key-of in
-    let the-pre = c .before .before .before .before .before .before .before .before .before .before .before .pre in
-    let the-stands = c .before .before .stands in
-    let the-if1 = c .before .if1 in
-    let the-if2 = c .if2 in
-    put-full (the-args .kind) (the-args .subj .now) (the-args .pred .now) (the-args .obj .now) (the-args .ann .now) (the-args .count) (the-args .s) (the-args .p) (the-args .o) (the-args .a) (the-key-of .result) (the-args .at)
-    (the-pre .into) (the-key-of .ensures) (rw (the-key-of .ensures) (the-pre .placed))
-    (the-stands .ensures .missing (the-if1 .left)) (the-if2 .left)
+    (the-stands .ensures .missing (the-if1 .left)) (omega (arith, the-if2 .left)))
 
 pub put-at-spec : {M : Type 1} → statement M
 put-at-spec =
@@ -122,16 +119,16 @@ put-at-spec =
     same-length-3
     same-length-4
     returns
+    add-more
+    same-length-5
+    same-length-6
+    same-length-7
+    returns-2
     open-u16-requires
     open-u16-requires-2
     open-u16-requires-3
     open-u64-requires
-    add-t34
-    same-length-5
-    same-length-6
-    same-length-7
     same-length-8
-    returns-2
     same-length-9
     same-length-10
     same-length-11
