@@ -3,13 +3,14 @@ ghost use mathlib.Core.Path.{_≡_};
 ghost use Prim.Native.Nat.{_+_, _≤_, _<_};
 ghost use lib.ListN.{length};
 ghost use Rattle.term.specs.Refusal.{first};
+ghost use Rattle.field.specs.Fields.{fieldAt};
 ghost use Rattle.table.specs.Rows.{row};
 ghost use Rattle.book.specs.Format.{baseChecks, contentChecks};
 ghost use Rattle.book.specs.Inner.{HeadContent, HeadOf, TripleContent, ContentOf};
 use field::Field;
+use field::field_at;
 use field::number::eight;
 use field::number::two;
-use field::reader::field_from;
 
 pub const CUT: u8 = 1;
 
@@ -102,7 +103,7 @@ fn head_content(book: &[u8]) -> Head
 pub fn head_of(book: &[u8]) -> Head
     ensures { λ r. ⌜ HeadOf (now (book .entry)) (r .number) (r .kind) (r .base) ⌝ }
 {
-    let field = field_from(book, 0);
+    let field = field_at(book, 0);
     match field {
         Field::End => no_head(NO_HEAD),
         Field::Cut => no_head(CUT),
@@ -167,12 +168,11 @@ fn triple_content(kind: u8, book: &[u8], at: usize) -> Content
     }
 }
 
-// The field at a position after the head.
-pub fn content_at(kind: u8, book: &[u8], at: usize) -> Content
-    requires { ⌜ at < length (now book) ⌝ }
+// The field found at a position after the head.
+pub fn content_at(kind: u8, book: &[u8], at: usize, field: Field) -> Content
+    requires { ⌜ (at < length (now book)) × (field ≡ fieldAt (now book) at) ⌝ }
     ensures { λ r. ⌜ ContentOf kind (now (book .entry)) at (r .number) (row (r .s) (r .p) (r .o) (r .a)) ⌝ }
 {
-    let field = field_from(book, at);
     match field {
         Field::End => no_content(CUT),
         Field::Cut => no_content(CUT),

@@ -1,9 +1,14 @@
 // Field after field into the lent lanes.
 ghost use mathlib.Core.Path.{_≡_};
 ghost use mathlib.Core.Bool.{cond};
+ghost use Rattle.field.specs.Fields.{fieldAt};
 ghost use Rattle.table.specs.Rows.{row, lanes};
 ghost use Rattle.book.specs.Inner.{FieldInto, FieldPut, Fresh, FieldsRead};
 use crate::content::content_at;
+use field::Field;
+use field::reader::field;
+use field::reader::moved;
+use field::reader::stand;
 use table::put::put_found;
 
 pub const HEAD_BYTES: usize = 7;
@@ -21,21 +26,22 @@ pub struct FieldsDone {
     pub count: usize,
 }
 
-// The field at a position is put into the table, or refused.
+// The field found at a position is put into the table, or refused.
 fn read_field(
     kind: u8,
     book: &[u8],
     at: usize,
+    field: Field,
     subj: &mut [u16],
     pred: &mut [u16],
     obj: &mut [u16],
     ann: &mut [u64],
     count: usize,
 ) -> FieldDone
-    requires { ⌜ FieldInto kind (now book) at (lanes (now subj) (now pred) (now obj) (now ann)) count ⌝ }
+    requires { ⌜ FieldInto kind (now book) at (lanes (now subj) (now pred) (now obj) (now ann)) count × (field ≡ fieldAt (now book) at) ⌝ }
     ensures { λ r. ⌜ FieldPut kind (now (book .entry)) at (lanes (now (subj .entry)) (now (pred .entry)) (now (obj .entry)) (now (ann .entry))) count (lanes (now (subj .exit)) (now (pred .exit)) (now (obj .exit)) (now (ann .exit))) (r .number) (r .count) ⌝ }
 {
-    let content = content_at(kind, book, at);
+    let content = content_at(kind, book, at, field);
     if content.number > 0 {
         return FieldDone {
             number: content.number,
@@ -66,7 +72,7 @@ pub fn room_number(full: bool) -> u8
     if full { table::NO_ROOM } else { 0 }
 }
 
-// Every field after the head, in order, until one is refused.
+// Every field after the head, in order, until one is refused. One reader is held, and goes from field to field.
 pub fn read_fields(
     kind: u8,
     book: &[u8],
@@ -78,19 +84,30 @@ pub fn read_fields(
     requires { ⌜ Fresh kind (lanes (now subj) (now pred) (now obj) (now ann)) ⌝ }
     ensures { λ r. ⌜ FieldsRead kind (now (book .entry)) (lanes (now (subj .entry)) (now (pred .entry)) (now (obj .entry)) (now (ann .entry))) (lanes (now (subj .exit)) (now (pred .exit)) (now (obj .exit)) (now (ann .exit))) (r .number) (r .place) (r .count) ⌝ }
 {
-    let mut at = HEAD_BYTES;
+    let mut reader = stand(book, HEAD_BYTES);
     let mut count = 0;
-    while at < book.len() {
-        let done = read_field(kind, book, at, subj, pred, obj, ann, count);
+    while reader.at < reader.src.len() {
+        let found = field(reader);
+        let done = read_field(
+            kind,
+            reader.src,
+            reader.at,
+            found,
+            subj,
+            pred,
+            obj,
+            ann,
+            count,
+        );
         if done.number > 0 {
             return FieldsDone {
                 number: done.number,
-                place: at,
+                place: reader.at,
                 count: done.count,
             };
         }
         count = done.count;
-        at += FIELD_BYTES;
+        reader = moved(reader, reader.at + FIELD_BYTES);
     }
     FieldsDone {
         number: 0,

@@ -1,6 +1,5 @@
 // A reader stands on the lent bytes and remembers its place. The borrow checker covers no function over a struct that holds a
-// reference, so these are few and thin, each proved by hand: the work is `field_at`'s, and `field_from` serves every caller that
-// has a plain slice and a number.
+// reference, so these are few and thin, each proved by hand, and the work is `field_at`'s. Who holds a reader is walked too.
 ghost use mathlib.Core.Path.{_≡_};
 ghost use Rattle.field.specs.Fields.{fieldAt};
 use crate::Field;
@@ -30,11 +29,4 @@ pub fn moved<'a>(r: Reader<'a>, at: usize) -> Reader<'a>
     ensures { λ q. ⌜ (q .src ≡ r .entry .src) × (q .at ≡ at) ⌝ }
 {
     Reader { src: r.src, at }
-}
-
-// The field at a place of the bytes, by a reader that stands there.
-pub fn field_from(bytes: &[u8], at: usize) -> Field
-    ensures { λ r. ⌜ r ≡ fieldAt (now (bytes .entry)) at ⌝ }
-{
-    field(stand(bytes, at))
 }

@@ -7,9 +7,6 @@ use borrow.Author.Needs.{needs}
 use Rattle.book.proofs.content.content_at.Statement.{statement}
 use Rattle.book.proofs.content.content_at.Tie as tie
 
-field-from-requires : tie.Need-field-from-requires
-field-from-requires c κs = search needs
-
 enum-told : tie.Need-enum-told
 enum-told c = search needs
 
@@ -30,80 +27,78 @@ no-content-requires-3 c κs = search needs
 
 returns : tie.Need-returns
 returns c =
-    let the-args = c .before .before .before .before .before .before .before .args in
+    let the-args = c .before .before .before .before .before .before .args in
+    let the-pre = c .before .before .before .before .before .before .pre in
     let the-field = c .before .before .before .field in
-    let the-field-from = c .before .before .before .before .before .field-from in
     let the-no-content3 = c .no-content3 in
     let the-if1 = c .before .if1 in
-    field-by-head (the-args .kind) (the-args .book .now) (the-args .at) _ _ (is-whole (the-args .book .now) (the-args .at) _ _ (sym (the-field .given .1) ∙ the-field-from .ensures)) _ _ (the-no-content3 .ensures) (the-if1 .taken)
+    field-by-head (the-args .kind) (the-args .book .now) (the-args .at) _ _ (is-whole (the-args .book .now) (the-args .at) _ _ (sym (the-field .given .1) ∙ the-pre .1)) _ _ (the-no-content3 .ensures) (the-if1 .taken)
 
 no-content-requires-4 : tie.Need-no-content-requires-4
 no-content-requires-4 c κs = search needs
 
 returns-2 : tie.Need-returns-2
 returns-2 c =
-    let the-args = c .before .before .before .before .before .before .before .before .args in
+    let the-args = c .before .before .before .before .before .before .before .args in
+    let the-pre = c .before .before .before .before .before .before .before .pre in
     let the-field = c .before .before .before .before .field in
-    let the-field-from = c .before .before .before .before .before .before .field-from in
     let the-if1 = c .before .before .if1 in
     let the-no-content4 = c .no-content4 in
     let the-if2 = c .before .if2 in
-    field-by-tag (the-args .kind) (the-args .book .now) (the-args .at) _ _ (is-whole (the-args .book .now) (the-args .at) _ _ (sym (the-field .given .1) ∙ the-field-from .ensures)) (the-if1 .left) _ _ (the-no-content4 .ensures) (the-if2 .taken)
+    field-by-tag (the-args .kind) (the-args .book .now) (the-args .at) _ _ (is-whole (the-args .book .now) (the-args .at) _ _ (sym (the-field .given .1) ∙ the-pre .1)) (the-if1 .left) _ _ (the-no-content4 .ensures) (the-if2 .taken)
 
 no-content-requires-5 : tie.Need-no-content-requires-5
 no-content-requires-5 c κs = search needs
 
 returns-3 : tie.Need-returns-3
 returns-3 c =
-    let the-args = c .before .before .before .before .before .before .before .before .before .args in
+    let the-args = c .before .before .before .before .before .before .before .before .args in
+    let the-pre = c .before .before .before .before .before .before .before .before .pre in
     let the-field = c .before .before .before .before .before .field in
-    let the-field-from = c .before .before .before .before .before .before .before .field-from in
     let the-if1 = c .before .before .before .if1 in
     let the-if2 = c .before .before .if2 in
     let the-no-content5 = c .no-content5 in
     let the-if3 = c .before .if3 in
-    field-by-size (the-args .kind) (the-args .book .now) (the-args .at) _ _ (is-whole (the-args .book .now) (the-args .at) _ _ (sym (the-field .given .1) ∙ the-field-from .ensures)) (the-if1 .left) (the-if2 .left) _ _ (the-no-content5 .ensures) (the-if3 .taken)
+    field-by-size (the-args .kind) (the-args .book .now) (the-args .at) _ _ (is-whole (the-args .book .now) (the-args .at) _ _ (sym (the-field .given .1) ∙ the-pre .1)) (the-if1 .left) (the-if2 .left) _ _ (the-no-content5 .ensures) (the-if3 .taken)
 
 triple-content-requires : tie.Need-triple-content-requires
 triple-content-requires c κs =
-    let the-args = c .before .before .before .before .before .before .before .before .args in
+    let the-args = c .before .before .before .before .before .before .before .args in
+    let the-pre = c .before .before .before .before .before .before .before .pre in
     let the-field = c .before .before .before .before .field in
-    let the-field-from = c .before .before .before .before .before .before .field-from in
     let the-if3 = c .if3 in
-    let w = (is-whole (the-args .book .now) (the-args .at) _ _ (sym (the-field .given .1) ∙ the-field-from .ensures)) in omega (arith, w .fits, the-if3 .left)
+    let w = (is-whole (the-args .book .now) (the-args .at) _ _ (sym (the-field .given .1) ∙ the-pre .1)) in omega (arith, w .fits, the-if3 .left)
 
 returns-4 : tie.Need-returns-4
 returns-4 c =
-    let the-args = c .before .before .before .before .before .args in
+    let the-args = c .before .before .before .before .args in
     let the-enum-told = c .before .enum-told in
-    let the-field-from = c .before .before .before .field-from in
-    let the-pre = c .before .before .before .before .before .pre in
-    absurd (omega (arith, is-end (the-args .book .now) (the-args .at) (sym (the-enum-told .given .1) ∙ the-field-from .ensures), the-pre))
+    let the-pre = c .before .before .before .before .pre in
+    absurd (omega (arith, is-end (the-args .book .now) (the-args .at) (sym (the-enum-told .given .1) ∙ the-pre .1), the-pre .0))
 
 returns-5 : tie.Need-returns-5
 returns-5 c =
-    let the-args = c .before .before .before .before .before .args in
+    let the-args = c .before .before .before .before .args in
+    let the-pre = c .before .before .before .before .pre in
     let the-no-content2 = c .no-content2 in
     let the-enum-told2 = c .before .enum-told2 in
-    let the-field-from = c .before .before .before .field-from in
-    field-by-cut (the-args .kind) (the-args .book .now) (the-args .at) _ _ (the-no-content2 .ensures) (is-cut (the-args .book .now) (the-args .at) (sym (the-enum-told2 .given .1) ∙ the-field-from .ensures) .1)
+    field-by-cut (the-args .kind) (the-args .book .now) (the-args .at) _ _ (the-no-content2 .ensures) (is-cut (the-args .book .now) (the-args .at) (sym (the-enum-told2 .given .1) ∙ the-pre .1) .1)
 
 returns-6 : tie.Need-returns-6
 returns-6 c =
-    let the-args = c .before .before .before .before .before .before .before .before .before .args in
+    let the-args = c .before .before .before .before .before .before .before .before .args in
+    let the-pre = c .before .before .before .before .before .before .before .before .pre in
     let the-field = c .before .before .before .before .before .field in
-    let the-field-from = c .before .before .before .before .before .before .before .field-from in
     let the-if1 = c .before .before .before .if1 in
     let the-if2 = c .before .before .if2 in
     let the-if3 = c .before .if3 in
     let the-triple-content = c .triple-content in
-    field-by-content (the-args .kind) (the-args .book .now) (the-args .at) _ _ (is-whole (the-args .book .now) (the-args .at) _ _ (sym (the-field .given .1) ∙ the-field-from .ensures)) (the-if1 .left) (the-if2 .left) _ _ (the-if3 .left) (the-triple-content .ensures)
+    field-by-content (the-args .kind) (the-args .book .now) (the-args .at) _ _ (is-whole (the-args .book .now) (the-args .at) _ _ (sym (the-field .given .1) ∙ the-pre .1)) (the-if1 .left) (the-if2 .left) _ _ (the-if3 .left) (the-triple-content .ensures)
 
 pub content-at-spec : {M : Type 1} → statement M
 content-at-spec =
     tie.close
     (tie.spec
-    field-from-requires
     enum-told
     no-content-requires
     enum-told-2

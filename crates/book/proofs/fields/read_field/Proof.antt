@@ -14,7 +14,7 @@ returns c =
     let the-pre = c .before .before .before .before .before .before .before .before .pre in
     let the-content-at = c .before .before .content-at in
     let the-if1 = c .if1 in
-    field-refused (the-args .kind) (the-args .book .now) (the-args .at) (lanes (the-args .subj .now) (the-args .pred .now) (the-args .obj .now) (the-args .ann .now)) (the-args .count) (the-pre) _ _ (the-content-at .ensures) (the-if1 .taken)
+    field-refused (the-args .kind) (the-args .book .now) (the-args .at) (lanes (the-args .subj .now) (the-args .pred .now) (the-args .obj .now) (the-args .ann .now)) (the-args .count) (the-pre .0) _ _ (the-content-at .ensures) (the-if1 .taken)
 
 put-found-requires : tie.Need-put-found-requires
 put-found-requires c κs =
@@ -22,7 +22,7 @@ put-found-requires c κs =
     let the-pre = c .before .before .before .before .before .before .before .before .before .before .before .before .pre in
     let the-content-at = c .before .before .before .before .before .before .content-at in
     let the-if1 = c .before .before .before .before .if1 in
-    field-ready (the-args .kind) (the-args .book .now) (the-args .at) (lanes (the-args .subj .now) (the-args .pred .now) (the-args .obj .now) (the-args .ann .now)) (the-args .count) (the-pre) _ _ (the-content-at .ensures) (the-if1 .left)
+    field-ready (the-args .kind) (the-args .book .now) (the-args .at) (lanes (the-args .subj .now) (the-args .pred .now) (the-args .obj .now) (the-args .ann .now)) (the-args .count) (the-pre .0) _ _ (the-content-at .ensures) (the-if1 .left)
 
 room-number-requires : tie.Need-room-number-requires
 room-number-requires c κs = search needs
@@ -47,7 +47,7 @@ returns-2 c =
     let the-if1 = c .before .before .before .before .before .before .before .before .before .before .before .before .before .before .if1 in
     let the-put = c .before .before .before .before .before .before .before .before .before .put-found in
     let the-room-number = c .room-number in
-    field-put (the-args .kind) (the-args .book .now) (the-args .at) (lanes (the-args .subj .now) (the-args .pred .now) (the-args .obj .now) (the-args .ann .now)) (the-args .count) (the-pre) _ _ (the-content-at .ensures) (the-if1 .left) _ (the-put .result .full) (the-put .result .changed) _ _ (the-put .ensures) (the-room-number .ensures)
+    field-put (the-args .kind) (the-args .book .now) (the-args .at) (lanes (the-args .subj .now) (the-args .pred .now) (the-args .obj .now) (the-args .ann .now)) (the-args .count) (the-pre .0) _ _ (the-content-at .ensures) (the-if1 .left) _ (the-put .result .full) (the-put .result .changed) _ _ (the-put .ensures) (the-room-number .ensures)
 
 pub read-field-spec : {M : Type 1} → statement M
 read-field-spec =
