@@ -59,6 +59,7 @@ fn read_field(
         content.p,
         content.o,
         content.a,
+        count,
     );
     FieldDone {
         number: room_number(done.full),

@@ -17,6 +17,7 @@ fn draw_row(
     ann: &mut [u64],
     count: usize,
     i: usize,
+    hint: usize,
 ) -> PutDone
     requires { ⌜ RowOfTable kind (lanes (now subj) (now pred) (now obj) (now ann)) count i ⌝ }
     ensures { λ r. ⌜ RowDrawn kind (lanes (now (subj .entry)) (now (pred .entry)) (now (obj .entry)) (now (ann .entry))) count i (lanes (now (subj .exit)) (now (pred .exit)) (now (obj .exit)) (now (ann .exit))) (r .full) (r .changed) (r .count) ⌝ }
@@ -27,17 +28,20 @@ fn draw_row(
     let a = ann[i];
     let mut n = count;
     let mut changed = false;
+    let mut near = hint;
     let mut rule: u8 = 0;
     while rule < RULES {
         let plan = plan_of(rule, x, d, y, a);
-        let done = pursue(kind, subj, pred, obj, ann, n, plan);
+        let done = pursue(kind, subj, pred, obj, ann, n, plan, near);
         n = done.count;
+        near = done.next;
         changed = either(changed, done.changed);
         if done.full {
             return PutDone {
                 full: true,
                 changed,
                 count: n,
+                next: near,
             };
         }
         rule += 1;
@@ -46,6 +50,7 @@ fn draw_row(
         full: false,
         changed,
         count: n,
+        next: near,
     }
 }
 
@@ -63,16 +68,19 @@ fn round(
 {
     let mut n = count;
     let mut changed = false;
+    let mut near = 0;
     let mut i = 0;
     while i < n {
-        let done = draw_row(kind, subj, pred, obj, ann, n, i);
+        let done = draw_row(kind, subj, pred, obj, ann, n, i, near);
         n = done.count;
+        near = done.next;
         changed = either(changed, done.changed);
         if done.full {
             return PutDone {
                 full: true,
                 changed,
                 count: n,
+                next: near,
             };
         }
         i += 1;
@@ -81,6 +89,7 @@ fn round(
         full: false,
         changed,
         count: n,
+        next: near,
     }
 }
 

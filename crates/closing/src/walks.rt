@@ -1,5 +1,6 @@
 // Carrying out a plan: a conclusion, the partner rows one after another, and the further rows of a rule of three premises.
 // The table may grow under a walk and rows move; only a walk that changed nothing shows that its plan is obeyed.
+// Each conclusion is looked for behind the one before (`hint`, `near`): they mostly come in order.
 ghost use mathlib.Core.Path.{_≡_};
 ghost use mathlib.Core.Bool.{cond};
 ghost use Rattle.table.specs.Rows.{row, lanes};
@@ -31,6 +32,7 @@ fn raise(
     p: u16,
     o: u16,
     a: u64,
+    hint: usize,
 ) -> PutDone
     requires { ⌜ Concluded kind (row s p o a) (lanes (now subj) (now pred) (now obj) (now ann)) count ⌝ }
     ensures { λ r. ⌜ Raised kind (row s p o a) (lanes (now (subj .entry)) (now (pred .entry)) (now (obj .entry)) (now (ann .entry))) count (lanes (now (subj .exit)) (now (pred .exit)) (now (obj .exit)) (now (ann .exit))) (r .full) (r .changed) (r .count) ⌝ }
@@ -40,6 +42,7 @@ fn raise(
             full: false,
             changed: false,
             count,
+            next: hint,
         };
     }
     if a == annotation::BOTTOM {
@@ -47,9 +50,10 @@ fn raise(
             full: false,
             changed: false,
             count,
+            next: hint,
         };
     }
-    put_found(kind, subj, pred, obj, ann, count, s, p, o, a)
+    put_found(kind, subj, pred, obj, ann, count, s, p, o, a, hint)
 }
 
 fn pick(b: bool, x: u16, y: u16) -> u16
@@ -68,6 +72,7 @@ fn draw_partner(
     count: usize,
     i: usize,
     plan: Plan,
+    hint: usize,
 ) -> PutDone
     requires { ⌜ Partner kind plan (lanes (now subj) (now pred) (now obj) (now ann)) count i ⌝ }
     ensures { λ r. ⌜ PartnerDrawn kind plan (lanes (now (subj .entry)) (now (pred .entry)) (now (obj .entry)) (now (ann .entry))) count i (lanes (now (subj .exit)) (now (pred .exit)) (now (obj .exit)) (now (ann .exit))) (r .full) (r .changed) (r .count) ⌝ }
@@ -76,7 +81,7 @@ fn draw_partner(
     let a = meet(kind, plan.a, ann[i]);
     let p = pick(plan.as_predicate, z, plan.p);
     let o = pick(plan.as_predicate, plan.o, z);
-    raise(kind, subj, pred, obj, ann, count, plan.s, p, o, a)
+    raise(kind, subj, pred, obj, ann, count, plan.s, p, o, a, hint)
 }
 
 // Whether row i is there and begins with q and r.
@@ -101,22 +106,26 @@ fn walk(
     ann: &mut [u64],
     count: usize,
     plan: Plan,
+    hint: usize,
 ) -> PutDone
     requires { ⌜ Straight kind plan (lanes (now subj) (now pred) (now obj) (now ann)) count ⌝ }
     ensures { λ r. ⌜ Walked kind plan (lanes (now (subj .entry)) (now (pred .entry)) (now (obj .entry)) (now (ann .entry))) count (lanes (now (subj .exit)) (now (pred .exit)) (now (obj .exit)) (now (ann .exit))) (r .full) (r .changed) (r .count) ⌝ }
 {
     let mut n = count;
     let mut changed = false;
+    let mut near = hint;
     let mut i = find(subj, pred, obj, count, key_of(plan.q, plan.r, 0));
     while begins(subj, pred, n, i, plan.q, plan.r) {
-        let done = draw_partner(kind, subj, pred, obj, ann, n, i, plan);
+        let done = draw_partner(kind, subj, pred, obj, ann, n, i, plan, near);
         n = done.count;
+        near = done.next;
         changed = either(changed, done.changed);
         if done.full {
             return PutDone {
                 full: true,
                 changed,
                 count: n,
+                next: near,
             };
         }
         i += 1;
@@ -125,6 +134,7 @@ fn walk(
         full: false,
         changed,
         count: n,
+        next: near,
     }
 }
 
@@ -138,6 +148,7 @@ fn draw_further(
     count: usize,
     i: usize,
     plan: Plan,
+    hint: usize,
 ) -> PutDone
     requires { ⌜ Further kind plan (lanes (now subj) (now pred) (now obj) (now ann)) count i ⌝ }
     ensures { λ r. ⌜ FurtherDrawn kind plan (lanes (now (subj .entry)) (now (pred .entry)) (now (obj .entry)) (now (ann .entry))) count i (lanes (now (subj .exit)) (now (pred .exit)) (now (obj .exit)) (now (ann .exit))) (r .full) (r .changed) (r .count) ⌝ }
@@ -145,7 +156,7 @@ fn draw_further(
     let q = obj[i];
     let a = meet(kind, plan.a, ann[i]);
     let behind = plain_plan(true, q, plan.r, plan.s, plan.p, a);
-    walk(kind, subj, pred, obj, ann, count, behind)
+    walk(kind, subj, pred, obj, ann, count, behind, hint)
 }
 
 // Every further row of a plan, one after another.
@@ -157,22 +168,26 @@ fn walk_further(
     ann: &mut [u64],
     count: usize,
     plan: Plan,
+    hint: usize,
 ) -> PutDone
     requires { ⌜ Behind kind plan (lanes (now subj) (now pred) (now obj) (now ann)) count ⌝ }
     ensures { λ r. ⌜ Walked kind plan (lanes (now (subj .entry)) (now (pred .entry)) (now (obj .entry)) (now (ann .entry))) count (lanes (now (subj .exit)) (now (pred .exit)) (now (obj .exit)) (now (ann .exit))) (r .full) (r .changed) (r .count) ⌝ }
 {
     let mut n = count;
     let mut changed = false;
+    let mut near = hint;
     let mut i = find(subj, pred, obj, count, key_of(plan.q, SP, 0));
     while begins(subj, pred, n, i, plan.q, SP) {
-        let done = draw_further(kind, subj, pred, obj, ann, n, i, plan);
+        let done = draw_further(kind, subj, pred, obj, ann, n, i, plan, near);
         n = done.count;
+        near = done.next;
         changed = either(changed, done.changed);
         if done.full {
             return PutDone {
                 full: true,
                 changed,
                 count: n,
+                next: near,
             };
         }
         i += 1;
@@ -181,6 +196,7 @@ fn walk_further(
         full: false,
         changed,
         count: n,
+        next: near,
     }
 }
 
@@ -193,19 +209,21 @@ pub fn pursue(
     ann: &mut [u64],
     count: usize,
     plan: Plan,
+    hint: usize,
 ) -> PutDone
     requires { ⌜ Planned kind plan (lanes (now subj) (now pred) (now obj) (now ann)) count ⌝ }
     ensures { λ r. ⌜ Walked kind plan (lanes (now (subj .entry)) (now (pred .entry)) (now (obj .entry)) (now (ann .entry))) count (lanes (now (subj .exit)) (now (pred .exit)) (now (obj .exit)) (now (ann .exit))) (r .full) (r .changed) (r .count) ⌝ }
 {
     if plan.on {
         if plan.further {
-            return walk_further(kind, subj, pred, obj, ann, count, plan);
+            return walk_further(kind, subj, pred, obj, ann, count, plan, hint);
         }
-        return walk(kind, subj, pred, obj, ann, count, plan);
+        return walk(kind, subj, pred, obj, ann, count, plan, hint);
     }
     PutDone {
         full: false,
         changed: false,
         count,
+        next: hint,
     }
 }

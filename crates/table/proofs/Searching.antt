@@ -37,15 +37,18 @@ module _ (S P O : List ℕ) (n k low high : ℕ) (h : Halving S P O n k low high
     between = record { kept = omega arith; within = omega (arith, h .some, h .between .within); before = h .between .before; reached = λ z. q };
   }
 
--- a key behind the last row is behind all
-module _ (S P O : List ℕ) (n k : ℕ) where
-  pub between-past : Ordered S P O n → 0 < n → keyAt S P O (n - 1) < k → Between S P O n k n n
-  between-past h s q = record { kept = omega arith; within = omega arith; before = λ i w. up i w (tri i (n - 1)); reached = λ z. absurd (omega arith) }
+-- a key behind the row before `at` is behind all rows before it
+module _ (S P O : List ℕ) (n k : ℕ) (h : Ordered S P O n) where
+  pub before-all : (at : ℕ) → at ≤ n → (0 < at → keyAt S P O (at - 1) < k) → (i : ℕ) → i < at → keyAt S P O i < k
+  before-all at w q i l = go (tri i (at - 1))
     where
-      up : (i : ℕ) → i < n → Tri i (n - 1) → keyAt S P O i < k
-      up i w (less z) = omega (arith, climbs n (keyAt S P O) (h .ascending) (n - 1) i z (omega (arith, s)), q)
-      up i w (same z) = rw z q
-      up i w (more z) = absurd (omega arith)
+      go : Tri i (at - 1) → keyAt S P O i < k
+      go (less z) = omega (arith, climbs n (keyAt S P O) (h .ascending) (at - 1) i z (omega arith), q (omega arith))
+      go (same z) = rw z (q (omega arith))
+      go (more z) = absurd (omega arith)
+
+  pub between-past : 0 < n → keyAt S P O (n - 1) < k → Between S P O n k n n
+  between-past s q = record { kept = omega arith; within = omega arith; before = before-all n (omega arith) (λ _. q); reached = λ z. absurd (omega arith) }
 
 -- the annotation of a triple, by the place of its key
 module _ (kind : ℕ) (S P O A : List ℕ) (n s p o at : ℕ) (ss : s < 65536) (sp : p < 65536) (so : o < 65536)

@@ -38,6 +38,11 @@ pub record Placed (subj pred obj : List ℕ) (n k r : ℕ) : Type 0 where
   pub before : (i : ℕ) → i < r → keyAt subj pred obj i < k
   pub reached : r < n → k ≤ keyAt subj pred obj r
 
+-- whether `at` is that place
+pub record IsPlace (subj pred obj : List ℕ) (n k at : ℕ) (r : Bool) : Type 0 where
+  pub placed : r ≡ true → Placed subj pred obj n k at
+  pub elsewhere : r ≡ false → Placed subj pred obj n k at → ⊥
+
 -- whether row `at` is there and has the key k
 pub record Stands (subj pred obj : List ℕ) (n at k : ℕ) (r : Bool) : Type 0 where
   pub there : r ≡ true → (at < n) × (k ≡ keyAt subj pred obj at)

@@ -2,7 +2,7 @@
 ghost use mathlib.Core.Path.{_≡_};
 ghost use Rattle.table.specs.Rows.{lanes, rowsOf, valueAt, triple};
 ghost use Rattle.table.specs.Sound.{Sound};
-ghost use Rattle.table.specs.Places.{Ordered, Placed, Stands, Between, Halving, Halved};
+ghost use Rattle.table.specs.Places.{Ordered, Placed, IsPlace, Stands, Between, Halving, Halved};
 use crate::rows::key_at;
 use crate::rows::key_of;
 
@@ -99,6 +99,43 @@ pub fn find(subj: &[u16], pred: &[u16], obj: &[u16], count: usize, key: u64) -> 
         high = next.high;
     }
     low
+}
+
+// Whether the key's place is `hint`.
+fn is_place(subj: &[u16], pred: &[u16], obj: &[u16], count: usize, key: u64, hint: usize) -> bool
+    requires { ⌜ Ordered (now subj) (now pred) (now obj) count ⌝ }
+    ensures { λ r. ⌜ IsPlace (now (subj .entry)) (now (pred .entry)) (now (obj .entry)) count key hint r ⌝ }
+{
+    if count < hint {
+        return false;
+    }
+    if hint > 0 {
+        if key <= key_at(subj, pred, obj, hint - 1) {
+            return false;
+        }
+    }
+    if hint < count {
+        return key <= key_at(subj, pred, obj, hint);
+    }
+    true
+}
+
+// The same as `find`, with a place to look at first: rows are often put in one behind the other.
+pub fn find_near(
+    subj: &[u16],
+    pred: &[u16],
+    obj: &[u16],
+    count: usize,
+    key: u64,
+    hint: usize,
+) -> usize
+    requires { ⌜ Ordered (now subj) (now pred) (now obj) count ⌝ }
+    ensures { λ r. ⌜ Placed (now (subj .entry)) (now (pred .entry)) (now (obj .entry)) count key r ⌝ }
+{
+    if is_place(subj, pred, obj, count, key, hint) {
+        return hint;
+    }
+    find(subj, pred, obj, count, key)
 }
 
 // The annotation of a triple, 0 where no row holds it.

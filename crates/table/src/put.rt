@@ -8,7 +8,7 @@ use crate::lane::open_u16;
 use crate::lane::open_u64;
 use crate::lane::zero_u16;
 use crate::lane::zero_u64;
-use crate::places::find;
+use crate::places::find_near;
 use crate::places::place;
 use crate::places::stands;
 use crate::rows::key_of;
@@ -23,10 +23,12 @@ pub fn wipe(subj: &mut [u16], pred: &mut [u16], obj: &mut [u16], ann: &mut [u64]
     zero_u64(ann);
 }
 
+// `next` is the place behind the row: where to look first for one that comes after it.
 pub struct PutDone {
     pub full: bool,
     pub changed: bool,
     pub count: usize,
+    pub next: usize,
 }
 
 // Joins a to the annotation at `at`, and says whether that changed it.
@@ -64,6 +66,7 @@ fn put_at(
             full: false,
             changed,
             count,
+            next: at + 1,
         };
     }
     let more = count + 1;
@@ -72,6 +75,7 @@ fn put_at(
             full: true,
             changed: false,
             count,
+            next: at,
         };
     }
     open_u16(subj, at, count, s);
@@ -82,6 +86,7 @@ fn put_at(
         full: false,
         changed: true,
         count: more,
+        next: at + 1,
     }
 }
 
@@ -105,7 +110,7 @@ pub fn put(
     put_at(kind, subj, pred, obj, ann, count, at, s, p, o, a)
 }
 
-// The same, its place found by halving: for rows that are read or drawn.
+// The same, its place looked for at `hint` first and then found by halving: for rows that are read or drawn.
 pub fn put_found(
     kind: u8,
     subj: &mut [u16],
@@ -117,10 +122,11 @@ pub fn put_found(
     p: u16,
     o: u16,
     a: u64,
+    hint: usize,
 ) -> PutDone
     requires { ⌜ PutInto kind (row s p o a) (lanes (now subj) (now pred) (now obj) (now ann)) count ⌝ }
     ensures { λ r. ⌜ Put kind (row s p o a) (lanes (now (subj .entry)) (now (pred .entry)) (now (obj .entry)) (now (ann .entry))) count (lanes (now (subj .exit)) (now (pred .exit)) (now (obj .exit)) (now (ann .exit))) (r .full) (r .changed) (r .count) ⌝ }
 {
-    let at = find(subj, pred, obj, count, key_of(s, p, o));
+    let at = find_near(subj, pred, obj, count, key_of(s, p, o), hint);
     put_at(kind, subj, pred, obj, ann, count, at, s, p, o, a)
 }

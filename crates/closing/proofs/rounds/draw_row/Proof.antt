@@ -10,36 +10,44 @@ use Rattle.closing.proofs.rounds.draw_row.Statement.{statement}
 use Rattle.closing.proofs.rounds.draw_row.Tie as tie
 
 abbrev Inv-loop : tie.InvT-loop
-Inv-loop kind subj₀ pred₀ obj₀ ann₀ count i x d y a n₀ changed₀ rule₀ subj pred obj ann n changed rule =
+Inv-loop kind subj₀ pred₀ obj₀ ann₀ count i hint x d y a n₀ changed₀ near₀ rule₀ subj pred obj ann n changed near rule =
     Along kind (RulePassed kind (lanes subj₀ pred₀ obj₀ ann₀) i) (lanes subj₀ pred₀ obj₀ ann₀) count 0 (lanes subj pred obj ann) changed n rule
 
 abbrev μ-loop : tie.MeasureT-loop
-μ-loop kind subj₀ pred₀ obj₀ ann₀ count i x d y a n₀ changed₀ rule₀ subj pred obj ann n changed rule =
+μ-loop kind subj₀ pred₀ obj₀ ann₀ count i hint x d y a n₀ changed₀ near₀ rule₀ subj pred obj ann n changed near rule =
     8 - rule
 
 mul-x : tie.Need-mul-x Inv-loop μ-loop
-mul-x c = search needs
+mul-x c =
+    search needs
 
 slice-read-x : tie.Need-slice-read-x Inv-loop μ-loop
-slice-read-x c = search needs
+slice-read-x c =
+    search needs
 
 mul-d : tie.Need-mul-d Inv-loop μ-loop
-mul-d c = search needs
+mul-d c =
+    search needs
 
 slice-read-d : tie.Need-slice-read-d Inv-loop μ-loop
-slice-read-d c = search needs
+slice-read-d c =
+    search needs
 
 mul-y : tie.Need-mul-y Inv-loop μ-loop
-mul-y c = search needs
+mul-y c =
+    search needs
 
 slice-read-y : tie.Need-slice-read-y Inv-loop μ-loop
-slice-read-y c = search needs
+slice-read-y c =
+    search needs
 
 mul-a : tie.Need-mul-a Inv-loop μ-loop
-mul-a c = search needs
+mul-a c =
+    search needs
 
 slice-read-a : tie.Need-slice-read-a Inv-loop μ-loop
-slice-read-a c = search needs
+slice-read-a c =
+    search needs
 
 loop-holds : tie.Need-loop-holds Inv-loop μ-loop
 loop-holds c =
@@ -48,7 +56,8 @@ loop-holds c =
     row-start (the-args .kind) (lanes (the-args .subj .now) (the-args .pred .now) (the-args .obj .now) (the-args .ann .now)) (the-args .count) (the-args .i) (the-pre)
 
 plan-of-requires : tie.Need-plan-of-requires Inv-loop μ-loop
-plan-of-requires c κs = search needs
+plan-of-requires c κs =
+    search needs
 
 pursue-requires : tie.Need-pursue-requires Inv-loop μ-loop
 pursue-requires c κs =
@@ -59,10 +68,12 @@ pursue-requires c κs =
     row-pursued (the-args .kind) (lanes (the-args .subj .now) (the-args .pred .now) (the-args .obj .now) (the-args .ann .now)) (the-args .count) (the-args .i) (the-pre) (the-loop .inv) (the-plan-of .ensures)
 
 either-requires : tie.Need-either-requires Inv-loop μ-loop
-either-requires c κs = search needs
+either-requires c κs =
+    search needs
 
 same-length : tie.Need-same-length Inv-loop μ-loop
-same-length c = search needs
+same-length c =
+    search needs
 
 same-length-2 : tie.Need-same-length-2 Inv-loop μ-loop
 same-length-2 c =
@@ -98,10 +109,12 @@ returns c =
     }
 
 add-rule : tie.Need-add-rule Inv-loop μ-loop
-add-rule c = search needs
+add-rule c =
+    search needs
 
 loop-less : tie.Need-loop-less Inv-loop μ-loop
-loop-less c = search needs
+loop-less c =
+    search needs
 
 loop-again : tie.Need-loop-again Inv-loop μ-loop
 loop-again c =
@@ -114,16 +127,20 @@ loop-again c =
     along-turn (the-args .kind) (RulePassed (the-args .kind) (lanes (the-args .subj .now) (the-args .pred .now) (the-args .obj .now) (the-args .ann .now)) (the-args .i)) (the-loop .inv) (the-pursue .ensures .step) (the-either .ensures) (the-if1 .left) (rw (the-plan-of .ensures) at (the-pursue .ensures .inside))
 
 same-length-5 : tie.Need-same-length-5 Inv-loop μ-loop
-same-length-5 c = search needs
+same-length-5 c =
+    search needs
 
 same-length-6 : tie.Need-same-length-6 Inv-loop μ-loop
-same-length-6 c = search needs
+same-length-6 c =
+    search needs
 
 same-length-7 : tie.Need-same-length-7 Inv-loop μ-loop
-same-length-7 c = search needs
+same-length-7 c =
+    search needs
 
 same-length-8 : tie.Need-same-length-8 Inv-loop μ-loop
-same-length-8 c = search needs
+same-length-8 c =
+    search needs
 
 returns-2 : tie.Need-returns-2 Inv-loop μ-loop
 returns-2 c =

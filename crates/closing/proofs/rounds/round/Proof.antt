@@ -12,11 +12,11 @@ use Rattle.closing.proofs.rounds.round.Statement.{statement}
 use Rattle.closing.proofs.rounds.round.Tie as tie
 
 abbrev Inv-loop : tie.InvT-loop
-Inv-loop kind subj₀ pred₀ obj₀ ann₀ count n₀ changed₀ i₀ subj pred obj ann n changed i =
+Inv-loop kind subj₀ pred₀ obj₀ ann₀ count n₀ changed₀ near₀ i₀ subj pred obj ann n changed near i =
     Along kind (RowObeyed kind) (lanes subj₀ pred₀ obj₀ ann₀) count 0 (lanes subj pred obj ann) changed n i
 
 abbrev μ-loop : tie.MeasureT-loop
-μ-loop kind subj₀ pred₀ obj₀ ann₀ count n₀ changed₀ i₀ subj pred obj ann n changed i =
+μ-loop kind subj₀ pred₀ obj₀ ann₀ count n₀ changed₀ near₀ i₀ subj pred obj ann n changed near i =
     length subj₀ - i
 
 loop-holds : tie.Need-loop-holds Inv-loop μ-loop
@@ -32,10 +32,12 @@ draw-row-requires c κs =
     record { sound = the-loop .inv .step .sound; there = omega (arith, the-loop-test .taken) }
 
 either-requires : tie.Need-either-requires Inv-loop μ-loop
-either-requires c κs = search needs
+either-requires c κs =
+    search needs
 
 same-length : tie.Need-same-length Inv-loop μ-loop
-same-length c = search needs
+same-length c =
+    search needs
 
 same-length-2 : tie.Need-same-length-2 Inv-loop μ-loop
 same-length-2 c =
@@ -92,16 +94,20 @@ loop-again c =
     along-turn (the-args .kind) (RowObeyed (the-args .kind)) (the-loop .inv) (the-draw-row .ensures .step) (the-either .ensures) (the-if1 .left) (the-draw-row .ensures .inside)
 
 same-length-5 : tie.Need-same-length-5 Inv-loop μ-loop
-same-length-5 c = search needs
+same-length-5 c =
+    search needs
 
 same-length-6 : tie.Need-same-length-6 Inv-loop μ-loop
-same-length-6 c = search needs
+same-length-6 c =
+    search needs
 
 same-length-7 : tie.Need-same-length-7 Inv-loop μ-loop
-same-length-7 c = search needs
+same-length-7 c =
+    search needs
 
 same-length-8 : tie.Need-same-length-8 Inv-loop μ-loop
-same-length-8 c = search needs
+same-length-8 c =
+    search needs
 
 returns-2 : tie.Need-returns-2 Inv-loop μ-loop
 returns-2 c =

@@ -6,11 +6,7 @@ use Rattle.closing.proofs.walks.pursue.Statement.{statement}
 use Rattle.closing.proofs.walks.pursue.Tie as tie
 
 walk-further-requires : tie.Need-walk-further-requires
-walk-further-requires c κs =
-    let the-pre = c .before .before .before .before .before .before .before .before .before .before .pre in
-    let the-if1 = c .before .before .before .before .before .if1 in
-    let the-if2 = c .before .before .before .before .if2 in
-    record { planned = the-pre; on = the-if1 .taken; behind = the-if2 .taken }
+walk-further-requires c κs = search needs
 
 same-length : tie.Need-same-length
 same-length c = search needs
@@ -25,16 +21,10 @@ same-length-4 : tie.Need-same-length-4
 same-length-4 c = search needs
 
 returns : tie.Need-returns
-returns c =
-    let the-walk-further = c .before .before .before .before .before .before .before .before .walk-further in
-    the-walk-further .ensures
+returns c = search needs
 
 walk-requires : tie.Need-walk-requires
-walk-requires c κs =
-    let the-pre = c .before .before .before .before .before .before .before .before .before .before .pre in
-    let the-if1 = c .before .before .before .before .before .if1 in
-    let the-if2 = c .before .before .before .before .if2 in
-    record { planned = the-pre; on = the-if1 .taken; straight = the-if2 .left }
+walk-requires c κs = search needs
 
 same-length-5 : tie.Need-same-length-5
 same-length-5 c = search needs
@@ -49,9 +39,7 @@ same-length-8 : tie.Need-same-length-8
 same-length-8 c = search needs
 
 returns-2 : tie.Need-returns-2
-returns-2 c =
-    let the-walk = c .before .before .before .before .before .before .before .before .walk in
-    the-walk .ensures
+returns-2 c = search needs
 
 returns-3 : tie.Need-returns-3
 returns-3 c =

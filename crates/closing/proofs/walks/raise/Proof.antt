@@ -54,8 +54,8 @@ returns-3 c =
     let the-sort-of = c .before .before .before .before .before .before .before .before .before .before .before .before .before .before .before .sort-of in
     let the-if1 = c .before .before .before .before .before .before .before .before .before .before .before .before .before .before .if1 in
     let the-if2 = c .before .before .before .before .before .before .before .before .before .before .before .before .before .if2 in
-    let the-put = c .before .before .before .before .before .before .before .before .put-found in
-    raised-put (the-args .kind) (row (the-args .s) (the-args .p) (the-args .o) (the-args .a)) (lanes (the-args .subj .now) (the-args .pred .now) (the-args .obj .now) (the-args .ann .now)) (the-args .count) (the-pre) (eq-eqb _ _ (sym (the-sort-of .ensures) ∙ the-if1 .left)) (omega (arith, the-if2 .left)) _ _ _ _ (the-put .ensures)
+    let the-put-found = c .before .before .before .before .before .before .before .before .put-found in
+    raised-put (the-args .kind) (row (the-args .s) (the-args .p) (the-args .o) (the-args .a)) (lanes (the-args .subj .now) (the-args .pred .now) (the-args .obj .now) (the-args .ann .now)) (the-args .count) (the-pre) (eq-eqb _ _ (sym (the-sort-of .ensures) ∙ the-if1 .left)) (omega (arith, the-if2 .left)) _ _ _ _ (the-put-found .ensures)
 
 pub raise-spec : {M : Type 1} → statement M
 raise-spec =

@@ -12,15 +12,16 @@ use Rattle.closing.proofs.walks.walk.Statement.{statement}
 use Rattle.closing.proofs.walks.walk.Tie as tie
 
 abbrev Inv-loop : tie.InvT-loop
-Inv-loop kind subj₀ pred₀ obj₀ ann₀ count plan n₀ changed₀ i₀ subj pred obj ann n changed i =
+Inv-loop kind subj₀ pred₀ obj₀ ann₀ count plan hint n₀ changed₀ near₀ i₀ subj pred obj ann n changed near i =
     Along kind (PartnerIn kind plan) (lanes subj₀ pred₀ obj₀ ann₀) count i₀ (lanes subj pred obj ann) changed n i
 
 abbrev μ-loop : tie.MeasureT-loop
-μ-loop kind subj₀ pred₀ obj₀ ann₀ count plan n₀ changed₀ i₀ subj pred obj ann n changed i =
+μ-loop kind subj₀ pred₀ obj₀ ann₀ count plan hint n₀ changed₀ near₀ i₀ subj pred obj ann n changed near i =
     length subj₀ - i
 
 key-of-requires : tie.Need-key-of-requires Inv-loop μ-loop
-key-of-requires c κs = search needs
+key-of-requires c κs =
+    search needs
 
 find-requires : tie.Need-find-requires Inv-loop μ-loop
 find-requires c κs =
@@ -53,10 +54,12 @@ draw-partner-requires c κs =
     along-partner (the-args .kind) (the-args .plan) (the-pre) (the-loop .inv) (the-begins .ensures) (the-if1 .taken)
 
 either-requires : tie.Need-either-requires Inv-loop μ-loop
-either-requires c κs = search needs
+either-requires c κs =
+    search needs
 
 same-length : tie.Need-same-length Inv-loop μ-loop
-same-length c = search needs
+same-length c =
+    search needs
 
 same-length-2 : tie.Need-same-length-2 Inv-loop μ-loop
 same-length-2 c =
@@ -112,16 +115,20 @@ loop-again c =
     along-turn (the-args .kind) (PartnerIn (the-args .kind) (the-args .plan)) (the-loop .inv) (the-draw-partner .ensures .step) (the-either .ensures) (the-if2 .left) (the-draw-partner .ensures .inside)
 
 same-length-5 : tie.Need-same-length-5 Inv-loop μ-loop
-same-length-5 c = search needs
+same-length-5 c =
+    search needs
 
 same-length-6 : tie.Need-same-length-6 Inv-loop μ-loop
-same-length-6 c = search needs
+same-length-6 c =
+    search needs
 
 same-length-7 : tie.Need-same-length-7 Inv-loop μ-loop
-same-length-7 c = search needs
+same-length-7 c =
+    search needs
 
 same-length-8 : tie.Need-same-length-8 Inv-loop μ-loop
-same-length-8 c = search needs
+same-length-8 c =
+    search needs
 
 returns-2 : tie.Need-returns-2 Inv-loop μ-loop
 returns-2 c =

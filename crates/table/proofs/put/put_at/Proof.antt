@@ -18,6 +18,9 @@ join-at-requires c κs =
     let the-pre = c .before .before .before .before .before .before .before .before .before .before .before .pre in
     omega (arith, the-stands .ensures .there (the-if1 .taken), the-pre .into .sound .within, the-pre .into .sound .ann-long)
 
+add-t24 : tie.Need-add-t24
+add-t24 c = search needs
+
 same-length : tie.Need-same-length
 same-length c = search needs
 
@@ -78,6 +81,12 @@ open-u16-requires-3 c κs = search needs
 open-u64-requires : tie.Need-open-u64-requires
 open-u64-requires c κs = search needs
 
+add-t25 : tie.Need-add-t25
+add-t25 c =
+    let the-pre = c .before .before .before .before .before .before .before .before .before .before .before .before .before .before .before .before .before .before .before .before .before .before .before .before .before .before .before .pre in
+    let the-if2 = c .before .before .before .before .before .before .before .before .before .before .before .before .before .before .before .before .if2 in
+    omega (arith, the-pre .placed .within, the-pre .into .sound .within, the-if2 .left)
+
 same-length-8 : tie.Need-same-length-8
 same-length-8 c = search needs
 
@@ -114,6 +123,7 @@ put-at-spec =
     key-of-requires
     stands-requires
     join-at-requires
+    add-t24
     same-length
     same-length-2
     same-length-3
@@ -128,6 +138,7 @@ put-at-spec =
     open-u16-requires-2
     open-u16-requires-3
     open-u64-requires
+    add-t25
     same-length-8
     same-length-9
     same-length-10

@@ -6,15 +6,15 @@ use Rattle.table.proofs.put.put_found.Tie as tie
 key-of-requires : tie.Need-key-of-requires
 key-of-requires c κs = search needs
 
-find-requires : tie.Need-find-requires
-find-requires c κs = search needs
+find-near-requires : tie.Need-find-near-requires
+find-near-requires c κs = search needs
 
 put-at-requires : tie.Need-put-at-requires
 put-at-requires c κs =
     let the-pre = c .before .before .before .before .before .before .before .before .before .before .before .before .before .pre in
     let the-key-of = c .before .before .before .before .before .key-of in
-    let the-find = c .before .before .before .before .find in
-    record { into = the-pre; placed = rw (← the-key-of .ensures) (the-find .ensures) }
+    let the-find-near = c .before .before .before .before .find-near in
+    record { into = the-pre; placed = rw (← the-key-of .ensures) (the-find-near .ensures) }
 
 same-length : tie.Need-same-length
 same-length c = search needs
@@ -36,7 +36,7 @@ put-found-spec =
     tie.close
     (tie.spec
     key-of-requires
-    find-requires
+    find-near-requires
     put-at-requires
     same-length
     same-length-2
