@@ -55,7 +55,9 @@ fn wrong_terms() {
     second_line("lamp is “led” 2000", "“led”: use plain quotes");
     second_line("lamp is 5\" 2000", "5\": a quote stands at the beginning of a word only");
     second_line("lamp is _ 2000", "a blank needs a name");
-    second_line("lamp is l\u{7}d 2000", "there is a character here that cannot be printed");
+    second_line(r#"lamp is "van"2000"#, "behind a closing quote stands a blank");
+    second_line(r#"lamp is "5"" pipe" 2000"#, "behind a closing quote stands a blank");
+    second_line("lamp is l\u{7}d 2000", "there is a character here that cannot be printed: U+0007");
     second_line("and lamp is led 2000", "this line goes on with a question, but none is above it");
 }
 
@@ -132,6 +134,20 @@ fn each_fault_has_its_own_line() {
 fn files_that_are_no_text() {
     assert_eq!(faults(b"kind sheets\nlamp \xFF is led\n"), ["2: this is not plain text (UTF-8)"]);
     assert_eq!(faults(b"\xFF\xFEk\0"), ["1: this is not plain text (UTF-8)"]);
+}
+
+/// What cannot be seen would make two names of one, or hide a line behind a comment.
+#[test]
+fn characters_that_cannot_be_seen() {
+    let unseen = |line: &str, code: &str| {
+        second_line(line, &format!("there is a character here that cannot be printed: {code}"));
+    };
+    unseen("\u{FEFF}lamp is led 2000", "U+FEFF");
+    unseen("lamp is led\u{200B} 2000", "U+200B");
+    unseen("lamp is l\u{AD}ed 2000", "U+00AD");
+    unseen("lamp is \"a\u{202E}b\" 2000", "U+202E");
+    unseen("# rear lamps\u{2028}lamp is led 2000", "U+2028");
+    unseen("# rear lamps\rlamp is led 2000", "U+000D");
 }
 
 /// A mark at the file's beginning, tabs, line ends of another system, no line end at the end.
