@@ -148,7 +148,10 @@ fn add(text: &mut Text, words: &[Placed]) -> Result<(), Fault> {
         return Ok(());
     }
     if cursor.peek(0).is_some_and(goes_on_with) {
-        return Err(Fault::new(line, "this line goes on with a question, but none is above it"));
+        return Err(Fault::new(
+            line,
+            "this line goes on with a question, but none is right above it",
+        ));
     }
     let (triple, value) = row(&mut cursor, &mut text.names, kind)?;
     text.book.add(&row_field(triple, value, line));

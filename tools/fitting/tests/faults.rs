@@ -25,6 +25,8 @@ fn wrong_years() {
     second_line("lamp is led 2007-2005", "the run 2007-2005 is backwards: write 2005-2007");
     second_line("lamp is led 1999", "year 1999 is outside this book's years, 2000 to 2063");
     second_line("lamp is led 2064", "year 2064 is outside");
+    second_line("lamp is led 2060-2064", "year 2064 of 2060-2064 is outside");
+    second_line("lamp is led 2000-02", "year 02 of 2000-02 is outside");
     second_line("lamp is led 2005-", "`2005-` is not a year");
     second_line("lamp is led 20O5", "`20O5` is not a year");
     second_line("lamp is led 2000 - 2002", "`-` is not a year");
@@ -34,6 +36,10 @@ fn wrong_years() {
         "`and` belongs in questions; between years stands a comma",
     );
     second_line("lamp is led always 2005", "`2005` is too much in this line");
+    second_line("lamp is led 2005, always", "`always` stands alone");
+    second_line("lamp is led Always", "`Always` is written in small letters: `always`");
+    second_line("lamp is led During 2005", "`During` is written in small letters: `during`");
+    second_line("lamp is led during during 2005", "`during` stands once, before all");
     second_line("lamp is led", "say when: years such as 2000-2002, 2005, or `always`");
     second_line("lamp is led during", "behind `during` stand years");
 }
@@ -58,7 +64,7 @@ fn wrong_terms() {
     second_line(r#"lamp is "van"2000"#, "behind a closing quote stands a blank");
     second_line(r#"lamp is "5"" pipe" 2000"#, "behind a closing quote stands a blank");
     second_line("lamp is l\u{7}d 2000", "there is a character here that cannot be printed: U+0007");
-    second_line("and lamp is led 2000", "this line goes on with a question, but none is above it");
+    second_line("and lamp is led 2000", "this line goes on with a question, but none is right");
 }
 
 #[test]
@@ -93,10 +99,29 @@ fn wrong_questions() {
         "`!=` belongs in the tests of a question, behind `where`",
     );
     second_line("ask ?x is led ?w where ?x = lamp where", "a test is");
+    second_line("ask ?x is led ?w where ?x Covers 2005", "`Covers` is written in small letters");
+    second_line("ask ?x is led ?w AND ?x is rear ?w", "`AND` is written in small letters: `and`");
+    second_line(
+        "ask ?x is led ?w where ?w covers 2005 or ?w covers 2006",
+        "between tests stands `and`, never `or`",
+    );
     second_line("ask ? is led ?w", "a variable needs a name");
     second_line(&format!("ask {}", "(".repeat(100_000)), "too many parentheses in one another");
     let long = vec!["?x is led ?w"; 4_000].join(" and ");
     second_line(&format!("ask {long}"), "this question is too long for the counter");
+}
+
+/// "From 2005 on" is not what a test of years says.
+#[test]
+fn at_least_is_for_degrees() {
+    second_line(
+        "ask ?x is led ?w where ?w >= 2005",
+        "`>=` is for degrees; write ?when covers 2005-2006",
+    );
+    let sheets = faults(b"kind sheets\nask ?x is led ?w where ?w >= 5\n");
+    assert_eq!(sheets, ["2: `>=` is for degrees; write ?when covers 3-5"]);
+    let degree = faults(b"kind degree\nask ?x is led ?d where ?d > 5\n");
+    assert_eq!(degree, ["2: a test is ?x = ?y, ?x != NAME, or ?degree >= 700"]);
 }
 
 #[test]
@@ -110,6 +135,7 @@ fn wrong_kinds() {
     one("kind\n", "1: the kind is missing");
     one("kind years\n", "1: the first year is missing");
     one("kind years from soon\n", "1: the first year is missing or no year");
+    one("kind years from +2000\n", "1: the first year is missing or no year");
     one("kind years from 70000\n", "1: the first year is missing or no year");
     one("kind sheets from 3\n", "1: `from` is too much in this line");
     one("kind sheets\nlamp is led 64\n", "2: sheet 64 is outside this book's sheets, 0 to 63");
