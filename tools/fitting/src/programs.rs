@@ -89,7 +89,7 @@ fn missing(folder: &Path, name: &str) -> String {
     let folder = folder.display();
     format!(
         "the program {name} is not in {folder}\n    \
-         Make it there by: rt check {name}\n    \
+         `rt check {name}`, in the repository, makes it in target/bin.\n    \
          Or say which folder has it: --bin FOLDER, or FITTING_BIN=FOLDER before the command."
     )
 }

@@ -193,5 +193,5 @@ fn names_run_out() {
     };
     assert_eq!(faults(names(16_378).as_bytes()).len(), 0);
     let found = faults(names(16_379).as_bytes());
-    assert_eq!(found, ["16380: n16378 is one name too many: a book has 16379"]);
+    assert_eq!(found, ["16380: n16378 is one name too many: a text has at most 16379"]);
 }

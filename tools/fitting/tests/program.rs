@@ -30,7 +30,7 @@ fn wrong_calls() {
     failed(&["clsoe", "examples/lamps.fit"], "fitting: there is no command clsoe");
     failed(&["close", "examples/none.fit"], "examples/none.fit: cannot be read:");
     failed(&["close", "examples/p1.book"], "examples/p1.book:1:");
-    let nowhere = "fitting: the program close_book is not in no/folder\n    Make it there by: rt check close_book\n";
+    let nowhere = "fitting: the program close_book is not in no/folder\n    `rt check close_book`, in the repository, makes it in target/bin.\n";
     failed(&["--bin", "no/folder", "close", "examples/lamps.fit"], nowhere);
 }
 

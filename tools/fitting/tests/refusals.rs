@@ -76,14 +76,15 @@ fn number_12_of_a_question() {
     let rows: String = (0..257).map(|number| format!("n{number} is led 2000\n")).collect();
     let (asked, done) = ask(&years(&format!("{rows}ask ?x is led ?w\n")));
     assert_eq!(asked.lines().filter(|line| line.contains("?x = ")).count(), 256);
-    let last =
-        "t.fit:259: refused 12: no room\n    More answers than 256; these are the first 256.\n";
+    let last = "t.fit:259: refused 12: no room\n    \
+                There are more than 256 answers; these are the first 256.\n";
     assert!(!done && asked.ends_with(&format!("{last}    256 answers, 257 looks\n")), "{asked}");
 }
 
 #[test]
 fn number_13() {
-    book(&years(&"lamp is led 2000\n".repeat(3855)), "t.fit: refused 13: book over 65,535 bytes\n");
+    let room = "t.fit: refused 13: book over 65,535 bytes\n    A book has room for 3,854 lines;";
+    book(&years(&"lamp is led 2000\n".repeat(3855)), room);
     assert!(close(&years(&"lamp is led 2000\n".repeat(3854))).1);
 }
 
