@@ -97,7 +97,7 @@ fn behind_quote(after: &str) -> Result<&str, String> {
     if after.is_empty() || after.starts_with(ends_word) {
         return Ok(after);
     }
-    Err(r#"behind a closing quote stands a blank (a quote within quotes is written \")"#
+    Err(r#"behind a closing quote stands a space (a quote within quotes is written \")"#
         .to_string())
 }
 
@@ -133,7 +133,7 @@ fn variable(name: &str) -> Result<String, String> {
     }
     let fits = |letter: char| letter.is_alphanumeric() || "-_".contains(letter);
     if !name.chars().all(fits) {
-        let why = "a variable's name has letters, digits, - and _ (put blanks around = and !=)";
+        let why = "a variable's name has letters, digits, - and _ (put spaces around = and !=)";
         return Err(format!("?{name}: {why}"));
     }
     Ok(name.to_string())

@@ -61,8 +61,8 @@ fn wrong_terms() {
     second_line("lamp is “led” 2000", "“led”: use plain quotes");
     second_line("lamp is 5\" 2000", "5\": a quote stands at the beginning of a word only");
     second_line("lamp is _ 2000", "a blank needs a name");
-    second_line(r#"lamp is "van"2000"#, "behind a closing quote stands a blank");
-    second_line(r#"lamp is "5"" pipe" 2000"#, "behind a closing quote stands a blank");
+    second_line(r#"lamp is "van"2000"#, "behind a closing quote stands a space");
+    second_line(r#"lamp is "5"" pipe" 2000"#, "behind a closing quote stands a space");
     second_line("lamp is l\u{7}d 2000", "there is a character here that cannot be printed: U+0007");
     second_line("and lamp is led 2000", "this line goes on with a question, but none is right");
 }
