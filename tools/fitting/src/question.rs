@@ -8,9 +8,7 @@
 use crate::annotation::Kind;
 use crate::fields::{Fields, LONGEST};
 use crate::names::Names;
-use crate::statement::{
-    judge_capitals, term, when, Cursor, Role, Slot, When, COMPARES, ORDER, ROLES,
-};
+use crate::statement::{in_capitals, term, when, Cursor, Role, Slot, When, COMPARES, ORDER, ROLES};
 use crate::words::{Placed, Word};
 use crate::Fault;
 
@@ -286,12 +284,5 @@ impl Asker<'_> {
             None => String::new(),
         };
         self.cursor.fault(format!("{found} where `and`, `or` or `where` could go on{open}"))
-    }
-}
-
-fn in_capitals(word: &Word) -> Option<String> {
-    match word {
-        Word::Plain(text) => judge_capitals(text).err(),
-        _ => None,
     }
 }

@@ -143,8 +143,16 @@ fn judge_name(text: &str, role: Role) -> Result<(), String> {
     Ok(())
 }
 
+/// What to say of a word of the text form that is not in small letters.
+pub fn in_capitals(word: &Word) -> Option<String> {
+    match word {
+        Word::Plain(text) => judge_capitals(text).err(),
+        _ => None,
+    }
+}
+
 /// A word of the text form in other letters is most often meant as that word.
-pub fn judge_capitals(text: &str) -> Result<(), String> {
+fn judge_capitals(text: &str) -> Result<(), String> {
     let small = text.to_lowercase();
     let known = [&FIVE_WORDS[..], &RESERVED, &COMPARES].concat().contains(&&*small);
     if known && small != text {

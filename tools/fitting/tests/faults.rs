@@ -132,6 +132,7 @@ fn wrong_kinds() {
     };
     one("lamp is led 2000\nvan is led 2000\n", "1: the first line says the kind");
     one("\n# lamps\nkind colours\nlamp is led 2000\n", "3: no kind is `colours`; the kinds are");
+    one("Kind sheets\nlamp is led 3\n", "1: `Kind` is written in small letters: `kind`");
     one("kind\n", "1: the kind is missing");
     one("kind years\n", "1: the first year is missing");
     one("kind years from soon\n", "1: the first year is missing or no year");

@@ -2,7 +2,8 @@
 
 mod common;
 use common::*;
-use fitting::programs::{read_counted, Refusal};
+use fitting::annotation::Kind;
+use fitting::programs::{read_closed, read_counted, Refusal};
 use fitting::refusal::{advice, words, Refused};
 
 /// The book is refused, by both programs, and the message begins like this.
@@ -140,4 +141,22 @@ fn lines_that_no_program_prints() {
     ] {
         assert_eq!(read_counted(printed), None, "{printed}");
     }
+}
+
+/// A listing of another kind, another base year, too few or too many rows.
+#[test]
+fn listings_that_no_program_prints() {
+    let read = |printed: &str| read_closed(printed, Some(Kind::Years { base: 2000 }));
+    assert!(read("closed 1 2000 1\n5 2 6 1\n").is_some());
+    for printed in [
+        "closed 2 2000 1\n5 2 6 1\n",
+        "closed 1 1999 1\n5 2 6 1\n",
+        "closed 1 2000 2\n5 2 6 1\n",
+        "closed 1 2000 0\n5 2 6 1\n",
+        "closed 1 2000 1\n5 2 65536 1\n",
+        "",
+    ] {
+        assert_eq!(read(printed), None, "{printed}");
+    }
+    assert_eq!(read_closed("closed 1 2000 0\n", None), None, "a book without a kind");
 }
