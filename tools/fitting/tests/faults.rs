@@ -195,4 +195,8 @@ fn names_run_out() {
     assert_eq!(faults(names(16_378).as_bytes()).len(), 0);
     let found = faults(names(16_379).as_bytes());
     assert_eq!(found, ["16380: n16378 is one name too many: a text has at most 16379"]);
+    let quoted = (0..=16_384).map(|number| format!("ask \"n {number}\" is led always\n"));
+    let found = faults(common::years(&quoted.collect::<String>()).as_bytes());
+    let one = "16386: \"n 16384\" is one quoted text too many: a text has at most 16384";
+    assert_eq!(found, [one]);
 }

@@ -79,6 +79,17 @@ fn output_that_finds_no_room_is_said() {
         assert!(output.stderr.starts_with(b"fitting: the output cannot be written"));
     }
     std::fs::remove_file(text).unwrap();
+    let full = std::fs::File::options().write(true).open("/dev/full").unwrap();
+    let status = command(&["close", "examples/none.fit"]).stderr(full).status().unwrap();
+    assert_eq!(status.code(), Some(1), "errors that find no room");
+}
+
+/// As if it were not set.
+#[test]
+fn an_empty_folder_name_names_no_folder() {
+    let output = command(&["close", "examples/lamps.fit"]).env("FITTING_BIN", "").output().unwrap();
+    let errors = String::from_utf8(output.stderr).unwrap();
+    assert!(!errors.contains("is not in \n"), "{errors}");
 }
 
 #[test]

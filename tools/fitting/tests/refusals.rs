@@ -103,7 +103,9 @@ fn number_19() {
 fn number_20() {
     let parts = |triples: usize| format!("ask {}", vec!["?x is led ?w"; triples].join("\nand "));
     let twenty = "t.fit:19: refused 20, field at byte 384: a 33rd part";
-    question("sheets", &parts(17), &[twenty, "and ?x is led ?w"]);
+    let counted = advice(Refused::Question, Refusal { number: 20, place: 384 }).unwrap();
+    assert!(counted.contains("each `and` or `or` between them, and each test"), "{counted}");
+    question("sheets", &parts(17), &[twenty, "and ?x is led ?w", counted]);
     let (_, done) = ask(&format!("kind sheets\nlamp is led 1\n{} where ?x = lamp\n", parts(16)));
     assert!(done, "32 parts");
 }
@@ -117,7 +119,11 @@ fn numbers_21_and_22() {
     let words = "test's annotation variable also stands in a TRIPLE outside that part";
     let place = format!("t.fit:4: refused 22, ONLY field at byte 24: {words}");
     let outside = "ask ?x is led ?w and\n(?x is led ?w where ?w covers 3)";
-    question("sheets", outside, &[&place, "(?x is led ?w where ?w covers 3)"]);
+    let instead = advice(Refused::Question, Refusal { number: 22, place: 24 }).unwrap();
+    assert!(instead.ends_with("or use another variable there."), "{instead}");
+    question("sheets", outside, &[&place, "(?x is led ?w where ?w covers 3)", instead]);
+    let at_the_end = "ask ?x is led ?w and\n?x is led ?w where ?w covers 3\n";
+    assert!(ask(&format!("kind sheets\nlamp is led always\n{at_the_end}")).1);
 }
 
 /// Four thousand million looks are not waited for; the counter's line is read.
