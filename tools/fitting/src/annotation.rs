@@ -51,7 +51,16 @@ impl Kind {
         }
     }
 
-    fn is_set(self) -> bool {
+    /// A test of when, for messages.
+    pub fn test(self) -> &'static str {
+        match self {
+            Kind::Years { .. } => "?when covers 2005-2006",
+            Kind::Sheets => "?when covers 3-5",
+            Kind::Degree | Kind::Strict => "?degree >= 700",
+        }
+    }
+
+    pub fn is_set(self) -> bool {
         matches!(self, Kind::Years { .. } | Kind::Sheets)
     }
 
@@ -108,14 +117,16 @@ impl Kind {
         let first = u32::from(self.base());
         let last = first + BITS - 1;
         let one = self.one();
-        let Some(number) = whole_number::<u32>(number) else {
+        let Some(place) = whole_number::<u32>(number) else {
             let name = if item.starts_with(char::is_alphabetic) { NAME_HINT } else { "" };
             return Err(format!("`{item}` is not a {one}: here stand {}{name}", self.example()));
         };
-        if !(first..=last).contains(&number) {
-            return Err(format!("{one} {number} is outside this book's {one}s, {first} to {last}"));
+        if !(first..=last).contains(&place) {
+            let run = if item == number { String::new() } else { format!(" of {item}") };
+            let outside = format!("is outside this book's {one}s, {first} to {last}");
+            return Err(format!("{one} {number}{run} {outside}"));
         }
-        Ok(number - first)
+        Ok(place - first)
     }
 
     /// The value as a text writes it.
@@ -133,7 +144,7 @@ impl Kind {
 }
 
 /// Digits and nothing else.
-fn whole_number<N: std::str::FromStr>(text: &str) -> Option<N> {
+pub fn whole_number<N: std::str::FromStr>(text: &str) -> Option<N> {
     let digits = text.bytes().all(|letter| letter.is_ascii_digit());
     text.parse().ok().filter(|_| digits)
 }

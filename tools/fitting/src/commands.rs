@@ -58,7 +58,7 @@ fn written_faults(file: &str, faults: &[Fault]) -> String {
 }
 
 fn close(file: &str, text: &Text, folder: &Path) -> Result<Outcome, String> {
-    match programs::close(folder, &text.book.bytes).map_err(of_program)? {
+    match programs::close(folder, &text.book.bytes, text.kind).map_err(of_program)? {
         Closed::Refused(refusal) => Err(book_refusal(file, text, refusal)),
         Closed::Rows(rows) => {
             let listing = show::listing(text, kind_of(text)?, &rows);
@@ -83,7 +83,7 @@ fn ask(file: &str, text: &Text, folder: &Path) -> Result<Outcome, String> {
         return Err(book_refusal(file, text, refusal));
     }
     if counted.asked.len() != text.questions.len() {
-        return Err("the program counter did not answer every question\n".to_string());
+        return Err(of_program("the program counter did not answer every question".to_string()));
     }
     let kind = kind_of(text)?;
     let shown: Option<Vec<String>> = (text.questions.iter().zip(&counted.asked))
@@ -109,11 +109,11 @@ fn book_refusal(file: &str, text: &Text, refusal: Refusal) -> String {
 }
 
 fn kind_of(text: &Text) -> Result<Kind, String> {
-    text.kind.ok_or_else(|| "a book without a kind was not refused\n".to_string())
+    text.kind.ok_or_else(|| of_program("a book without a kind was not refused".to_string()))
 }
 
 fn strange_term() -> String {
-    "a program gave back a term that is not in the text\n".to_string()
+    of_program("a program gave back a term that is not in the text".to_string())
 }
 
 fn of_program(why: String) -> String {

@@ -40,7 +40,8 @@ impl Names {
         }
         if self.texts[sort as usize].len() == MOST {
             return Err(format!(
-                "{text} is one {} too many: a book has {}",
+                "{} is one {} too many: a text has at most {}",
+                sort.written(text),
                 sort.word(),
                 sort.most()
             ));

@@ -1,5 +1,6 @@
 //! The two proved programs: running them, and reading the lines they print.
 
+use crate::annotation::Kind;
 use std::io::Write;
 use std::path::{Path, PathBuf};
 use std::process::{Command, Stdio};
@@ -89,7 +90,7 @@ fn missing(folder: &Path, name: &str) -> String {
     let folder = folder.display();
     format!(
         "the program {name} is not in {folder}\n    \
-         Make it there by: rt check {name}\n    \
+         `rt check {name}`, in the repository, makes it in target/bin.\n    \
          Or say which folder has it: --bin FOLDER, or FITTING_BIN=FOLDER before the command."
     )
 }
@@ -98,10 +99,10 @@ fn unreadable(name: &str, line: &str) -> String {
     format!("the program {name} printed what it should not: {line}")
 }
 
-/// Closes a book by the closing program.
-pub fn close(folder: &Path, book: &[u8]) -> Result<Closed, String> {
+/// Closes a book of this kind by the closing program.
+pub fn close(folder: &Path, book: &[u8], kind: Option<Kind>) -> Result<Closed, String> {
     let printed = run(folder, CLOSE_BOOK, book)?;
-    read_closed(&printed).ok_or_else(|| unreadable(CLOSE_BOOK, &beginning(&printed)))
+    read_closed(&printed, kind).ok_or_else(|| unreadable(CLOSE_BOOK, &beginning(&printed)))
 }
 
 /// Asks by the counter's program; `input` is the book and the questions, each behind its length.
@@ -116,17 +117,21 @@ fn beginning(printed: &str) -> String {
 }
 
 /// `closed KIND BASE ROWS` and the rows, or `refused NUMBER PLACE`.
-pub fn read_closed(printed: &str) -> Option<Closed> {
+pub fn read_closed(printed: &str, kind: Option<Kind>) -> Option<Closed> {
     let mut lines = printed.lines();
     let (word, numbers) = split_line(lines.next()?)?;
     match (word, &numbers[..]) {
         ("refused", _) => Some(Closed::Refused(refusal(&numbers)?)),
-        ("closed", [_, _, count]) => {
+        ("closed", [number, base, count]) if is_of(kind?, *number, *base) => {
             let rows = lines.map(read_row).collect::<Option<Vec<Row>>>()?;
             (rows.len() as u64 == *count).then_some(Closed::Rows(rows))
         }
         _ => None,
     }
+}
+
+fn is_of(kind: Kind, number: u64, base: u64) -> bool {
+    number == u64::from(kind.number()) && base == u64::from(kind.base())
 }
 
 /// A line's first word and the numbers behind it.

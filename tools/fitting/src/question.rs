@@ -3,12 +3,12 @@
 //! - group: an either, then `where` and tests with `and` between them
 //! - either: boths with `or` between them
 //! - both: triples, or groups in parentheses, with `and` between them
-//! - test: TERM = TERM, TERM != TERM, ?VARIABLE covers YEARS
+//! - test: TERM = TERM, TERM != TERM, ?VARIABLE covers YEARS, ?VARIABLE >= DEGREE
 
 use crate::annotation::Kind;
 use crate::fields::{Fields, LONGEST};
 use crate::names::Names;
-use crate::statement::{term, when, Cursor, Role, Slot, When, COMPARES, ORDER, ROLES};
+use crate::statement::{in_capitals, term, when, Cursor, Role, Slot, When, COMPARES, ORDER, ROLES};
 use crate::words::{Placed, Word};
 use crate::Fault;
 
@@ -108,10 +108,13 @@ impl Asker<'_> {
 
     /// Passes over a `where`, or over an `and` with a test behind it; its line.
     fn another_test(&mut self) -> Option<usize> {
-        let compares =
-            self.cursor.peek(2).is_some_and(|word| COMPARES.iter().any(|one| word.is(one)));
-        let and = if compares { self.cursor.take("and") } else { None };
+        let and = if self.test_behind() { self.cursor.take("and") } else { None };
         and.or_else(|| self.cursor.take("where"))
+    }
+
+    /// Whether a test stands behind the next word.
+    fn test_behind(&self) -> bool {
+        self.cursor.peek(2).is_some_and(|word| COMPARES.iter().any(|one| word.is(one)))
     }
 
     fn either(&mut self) -> Result<Fields, Fault> {
@@ -212,6 +215,12 @@ impl Asker<'_> {
         let line = self.cursor.line();
         let compare = self.cursor.peek(1);
         let is = |plain: &str| compare.is_some_and(|word| word.is(plain));
+        if is(">=") && self.kind.is_set() {
+            return Err(Fault::new(
+                line,
+                format!("`>=` is for degrees; write {}", self.kind.test()),
+            ));
+        }
         if is("covers") || is(">=") {
             return self.at_least(line);
         }
@@ -220,14 +229,18 @@ impl Asker<'_> {
         } else if is("!=") {
             UNEQUAL
         } else {
-            let tests = "a test is ?x = ?y, ?x != NAME, or ?when covers YEARS";
-            return Err(Fault::new(line, tests));
+            return Err(self.no_test(line, compare));
         };
         let mut value = vec![mark];
         value.extend(self.slot(Role::Side)?);
         self.cursor.word();
         value.extend(self.slot(Role::Side)?);
         Ok(Fields::one(TEST, &value, line))
+    }
+
+    fn no_test(&self, line: usize, compare: Option<&Word>) -> Fault {
+        let tests = format!("a test is ?x = ?y, ?x != NAME, or {}", self.kind.test());
+        Fault::new(line, compare.and_then(in_capitals).unwrap_or(tests))
     }
 
     fn at_least(&mut self, line: usize) -> Result<Fields, Fault> {
@@ -254,6 +267,13 @@ impl Asker<'_> {
 
     fn not_expected(&self, word: &Word) -> Fault {
         let found = word.shown();
+        if word.is("or") && self.test_behind() {
+            let only = "between tests stands `and`, never `or`: write a question for each";
+            return self.cursor.fault(only);
+        }
+        if let Some(words) = in_capitals(word) {
+            return self.cursor.fault(words);
+        }
         if word.is("and") || word.is("or") {
             let why =
                 "behind a test; put `( )` around the part that the test is for, `where` and all";

@@ -41,15 +41,17 @@ fn row_words(text: &Text, kind: Kind, row: &Row) -> Option<Vec<String>> {
     Some(line)
 }
 
+/// A longer word than this does not widen its column.
+const WIDEST: usize = 100;
+
 /// Lines of words, each column as wide as its widest word, two blanks between.
 fn in_columns(lines: &[Vec<String>]) -> Vec<String> {
     let columns = lines.iter().map(Vec::len).max().unwrap_or(0);
-    let width_of = |word: &String| word.chars().count();
-    let widths: Vec<usize> = (0..columns)
-        .map(|column| {
-            lines.iter().filter_map(|line| line.get(column).map(width_of)).max().unwrap_or(0)
-        })
-        .collect();
+    let width_of = |word: &String| Some(word.chars().count()).filter(|width| *width <= WIDEST);
+    let width = |column: usize| {
+        lines.iter().filter_map(|line| line.get(column).and_then(width_of)).max().unwrap_or(0)
+    };
+    let widths: Vec<usize> = (0..columns).map(width).collect();
     let padded = |line: &Vec<String>| {
         let words = line.iter().zip(&widths).map(|(word, width)| format!("{word:<width$}"));
         words.collect::<Vec<String>>().join("  ").trim_end().to_string()

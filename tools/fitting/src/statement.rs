@@ -1,6 +1,6 @@
 //! What a line is made of: its words one by one, terms, when it holds; and the lines of a book.
 
-use crate::annotation::Kind;
+use crate::annotation::{whole_number, Kind};
 use crate::names::{Names, Sort, FIVE_WORDS};
 use crate::words::{Placed, Word};
 use crate::Fault;
@@ -135,14 +135,28 @@ fn judge_name(text: &str, role: Role) -> Result<(), String> {
     if let Some(at) = DOCUMENT_WORDS.iter().position(|word| *word == text) {
         return Err(format!("`{text}` is written `{}` here", FIVE_WORDS[at]));
     }
-    let small = text.to_lowercase();
-    let known = FIVE_WORDS.contains(&&*small) || RESERVED.contains(&&*small);
-    if known && small != text {
-        return Err(format!("`{text}` is written in small letters: `{small}`"));
-    }
+    judge_capitals(text)?;
     if text.chars().all(|letter| letter.is_ascii_digit() || "-–—.".contains(letter)) {
         let misplaced = role.misplaced(&format!("`{text}`"));
         return Err(format!("{misplaced} (a name that is a number is put in quotes: \"{text}\")"));
+    }
+    Ok(())
+}
+
+/// What to say of a word of the text form that is not in small letters.
+pub fn in_capitals(word: &Word) -> Option<String> {
+    match word {
+        Word::Plain(text) => judge_capitals(text).err(),
+        _ => None,
+    }
+}
+
+/// A word of the text form in other letters is most often meant as that word.
+fn judge_capitals(text: &str) -> Result<(), String> {
+    let small = text.to_lowercase();
+    let known = [&FIVE_WORDS[..], &RESERVED, &COMPARES].concat().contains(&&*small);
+    if known && small != text {
+        return Err(format!("`{text}` is written in small letters: `{small}`"));
     }
     Ok(())
 }
@@ -163,8 +177,18 @@ pub fn when(cursor: &mut Cursor, kind: Kind) -> Result<Option<When>, Fault> {
         let missing = format!("behind `during` stand {}, a ?variable or `always`", kind.example());
         return if during { Err(cursor.fault(missing)) } else { Ok(None) };
     }
-    let value = kind.value(&items).map_err(|words| Fault::new(line, words))?;
+    let judged = items.iter().try_for_each(|item| judge_item(item));
+    let value =
+        judged.and_then(|()| kind.value(&items)).map_err(|words| Fault::new(line, words))?;
     Ok(Some(When::Constant(value)))
+}
+
+fn judge_item(item: &str) -> Result<(), String> {
+    match item {
+        "always" => Err("`always` stands alone, with nothing before or behind it".to_string()),
+        "during" => Err("`during` stands once, before all".to_string()),
+        _ => judge_capitals(item),
+    }
 }
 
 /// The words up to the end of a list; a comma stands between two of them or not.
@@ -253,7 +277,7 @@ fn first_year(cursor: &mut Cursor) -> Result<u16, Fault> {
     let fault = cursor.fault("the first year is missing or no year: kind years from 2000");
     cursor.take("from").ok_or_else(|| fault.clone())?;
     match cursor.word() {
-        Some(Word::Plain(year)) => year.parse().map_err(|_| fault),
+        Some(Word::Plain(year)) => whole_number(year).ok_or(fault),
         _ => Err(fault),
     }
 }

@@ -4,7 +4,7 @@ use crate::annotation::Kind;
 use crate::fields::Fields;
 use crate::names::Names;
 use crate::question::{question, Question};
-use crate::statement::{kind, row, Cursor};
+use crate::statement::{in_capitals, kind, row, Cursor};
 use crate::words::{words, Placed, Word};
 use crate::Fault;
 use std::collections::{HashMap, HashSet};
@@ -141,14 +141,18 @@ fn add(text: &mut Text, words: &[Placed]) -> Result<(), Fault> {
     }
     let Some(kind) = text.kind else {
         let first = "the first line says the kind, such as: kind years from 2000";
-        return Err(Fault::new(line, first));
+        let capitals = cursor.peek(0).and_then(in_capitals);
+        return Err(Fault::new(line, capitals.unwrap_or(first.to_string())));
     };
     if begins("ask") {
         text.questions.push(question(words, &mut text.names, kind)?);
         return Ok(());
     }
     if cursor.peek(0).is_some_and(goes_on_with) {
-        return Err(Fault::new(line, "this line goes on with a question, but none is above it"));
+        return Err(Fault::new(
+            line,
+            "this line goes on with a question, but none is right above it",
+        ));
     }
     let (triple, value) = row(&mut cursor, &mut text.names, kind)?;
     text.book.add(&row_field(triple, value, line));

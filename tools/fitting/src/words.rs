@@ -43,8 +43,9 @@ impl Word {
 
 /// The words of a line, up to a comment.
 pub fn words(line: &str) -> Result<Vec<Word>, String> {
-    if line.contains(|letter: char| letter.is_control() && letter != '\t') {
-        return Err("there is a character here that cannot be printed".to_string());
+    if let Some(letter) = line.chars().find(|letter| is_unseen(*letter)) {
+        let code = letter as u32;
+        return Err(format!("there is a character here that cannot be printed: U+{code:04X}"));
     }
     let mut found = Vec::new();
     let mut rest = line.trim_start();
@@ -65,13 +66,22 @@ pub fn words(line: &str) -> Result<Vec<Word>, String> {
     Ok(found)
 }
 
+/// Characters without a shape: names that differ by one look the same, and behind a line end of
+/// another sort a comment would hide what looks like a line.
+fn is_unseen(letter: char) -> bool {
+    let format = matches!(letter,
+        '\u{AD}' | '\u{200B}' | '\u{200E}' | '\u{200F}' | '\u{2028}'..='\u{202E}'
+        | '\u{2060}'..='\u{206F}' | '\u{FEFF}');
+    format || letter.is_control() && letter != '\t'
+}
+
 /// The literal whose opening quote was passed; `\"` and `\\` stand for a quote and a backslash.
 fn literal(rest: &str) -> Result<(Word, &str), String> {
     let mut text = String::new();
     let mut letters = rest.char_indices();
     while let Some((at, letter)) = letters.next() {
         match letter {
-            '"' => return Ok((Word::Literal(text), &rest[at + 1..])),
+            '"' => return behind_quote(&rest[at + 1..]).map(|after| (Word::Literal(text), after)),
             '\\' => match letters.next() {
                 Some((_, escaped @ ('"' | '\\'))) => text.push(escaped),
                 _ => return Err(r#"in quotes, \ stands only before " or \"#.to_string()),
@@ -82,9 +92,21 @@ fn literal(rest: &str) -> Result<(Word, &str), String> {
     Err("a quote is opened and not closed in this line".to_string())
 }
 
+/// What stands behind a closing quote, if that ends a word.
+fn behind_quote(after: &str) -> Result<&str, String> {
+    if after.is_empty() || after.starts_with(ends_word) {
+        return Ok(after);
+    }
+    Err(r#"behind a closing quote stands a space (a quote within quotes is written \")"#
+        .to_string())
+}
+
+fn ends_word(letter: char) -> bool {
+    letter.is_whitespace() || ",()".contains(letter)
+}
+
 fn plain(rest: &str) -> Result<(Word, &str), String> {
-    let ends = |letter: char| letter.is_whitespace() || ",()".contains(letter);
-    let (text, after) = rest.split_at(rest.find(ends).unwrap_or(rest.len()));
+    let (text, after) = rest.split_at(rest.find(ends_word).unwrap_or(rest.len()));
     judge_letters(text)?;
     let word = match text.split_at(text.chars().next().map_or(0, char::len_utf8)) {
         ("?", name) => Word::Variable(variable(name)?),
@@ -111,7 +133,7 @@ fn variable(name: &str) -> Result<String, String> {
     }
     let fits = |letter: char| letter.is_alphanumeric() || "-_".contains(letter);
     if !name.chars().all(fits) {
-        let why = "a variable's name has letters, digits, - and _ (put blanks around = and !=)";
+        let why = "a variable's name has letters, digits, - and _ (put spaces around = and !=)";
         return Err(format!("?{name}: {why}"));
     }
     Ok(name.to_string())

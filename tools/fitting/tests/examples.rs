@@ -102,3 +102,14 @@ fn bench_examples_as_text() {
     let listing = "kind years from 2000\nlamp  is  led  2000-2002, 2005-2007\n";
     assert_eq!(close(&p2), (listing.to_string(), true));
 }
+
+/// A name longer than any column; the other lines stay narrow.
+#[test]
+fn a_very_long_name_is_listed() {
+    let long = "l".repeat(70_000);
+    let text = years(&format!("{long} is led 2000\nlamp is led 2001\n"));
+    let listing = format!("kind years from 2000\n{long}  is  led  2000\nlamp  is  led  2001\n");
+    assert_eq!(close(&text), (listing, true));
+    let (answers, done) = ask(&format!("{text}ask ?x is led 2000\n"));
+    assert!(done && answers.contains(&format!("    ?x = {long}\n    1 answer, 2 looks\n")));
+}

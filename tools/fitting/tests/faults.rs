@@ -25,6 +25,8 @@ fn wrong_years() {
     second_line("lamp is led 2007-2005", "the run 2007-2005 is backwards: write 2005-2007");
     second_line("lamp is led 1999", "year 1999 is outside this book's years, 2000 to 2063");
     second_line("lamp is led 2064", "year 2064 is outside");
+    second_line("lamp is led 2060-2064", "year 2064 of 2060-2064 is outside");
+    second_line("lamp is led 2000-02", "year 02 of 2000-02 is outside");
     second_line("lamp is led 2005-", "`2005-` is not a year");
     second_line("lamp is led 20O5", "`20O5` is not a year");
     second_line("lamp is led 2000 - 2002", "`-` is not a year");
@@ -34,6 +36,10 @@ fn wrong_years() {
         "`and` belongs in questions; between years stands a comma",
     );
     second_line("lamp is led always 2005", "`2005` is too much in this line");
+    second_line("lamp is led 2005, always", "`always` stands alone");
+    second_line("lamp is led Always", "`Always` is written in small letters: `always`");
+    second_line("lamp is led During 2005", "`During` is written in small letters: `during`");
+    second_line("lamp is led during during 2005", "`during` stands once, before all");
     second_line("lamp is led", "say when: years such as 2000-2002, 2005, or `always`");
     second_line("lamp is led during", "behind `during` stand years");
 }
@@ -55,8 +61,10 @@ fn wrong_terms() {
     second_line("lamp is “led” 2000", "“led”: use plain quotes");
     second_line("lamp is 5\" 2000", "5\": a quote stands at the beginning of a word only");
     second_line("lamp is _ 2000", "a blank needs a name");
-    second_line("lamp is l\u{7}d 2000", "there is a character here that cannot be printed");
-    second_line("and lamp is led 2000", "this line goes on with a question, but none is above it");
+    second_line(r#"lamp is "van"2000"#, "behind a closing quote stands a space");
+    second_line(r#"lamp is "5"" pipe" 2000"#, "behind a closing quote stands a space");
+    second_line("lamp is l\u{7}d 2000", "there is a character here that cannot be printed: U+0007");
+    second_line("and lamp is led 2000", "this line goes on with a question, but none is right");
 }
 
 #[test]
@@ -91,10 +99,29 @@ fn wrong_questions() {
         "`!=` belongs in the tests of a question, behind `where`",
     );
     second_line("ask ?x is led ?w where ?x = lamp where", "a test is");
+    second_line("ask ?x is led ?w where ?x Covers 2005", "`Covers` is written in small letters");
+    second_line("ask ?x is led ?w AND ?x is rear ?w", "`AND` is written in small letters: `and`");
+    second_line(
+        "ask ?x is led ?w where ?w covers 2005 or ?w covers 2006",
+        "between tests stands `and`, never `or`",
+    );
     second_line("ask ? is led ?w", "a variable needs a name");
     second_line(&format!("ask {}", "(".repeat(100_000)), "too many parentheses in one another");
     let long = vec!["?x is led ?w"; 4_000].join(" and ");
     second_line(&format!("ask {long}"), "this question is too long for the counter");
+}
+
+/// "From 2005 on" is not what a test of years says.
+#[test]
+fn at_least_is_for_degrees() {
+    second_line(
+        "ask ?x is led ?w where ?w >= 2005",
+        "`>=` is for degrees; write ?when covers 2005-2006",
+    );
+    let sheets = faults(b"kind sheets\nask ?x is led ?w where ?w >= 5\n");
+    assert_eq!(sheets, ["2: `>=` is for degrees; write ?when covers 3-5"]);
+    let degree = faults(b"kind degree\nask ?x is led ?d where ?d > 5\n");
+    assert_eq!(degree, ["2: a test is ?x = ?y, ?x != NAME, or ?degree >= 700"]);
 }
 
 #[test]
@@ -105,9 +132,11 @@ fn wrong_kinds() {
     };
     one("lamp is led 2000\nvan is led 2000\n", "1: the first line says the kind");
     one("\n# lamps\nkind colours\nlamp is led 2000\n", "3: no kind is `colours`; the kinds are");
+    one("Kind sheets\nlamp is led 3\n", "1: `Kind` is written in small letters: `kind`");
     one("kind\n", "1: the kind is missing");
     one("kind years\n", "1: the first year is missing");
     one("kind years from soon\n", "1: the first year is missing or no year");
+    one("kind years from +2000\n", "1: the first year is missing or no year");
     one("kind years from 70000\n", "1: the first year is missing or no year");
     one("kind sheets from 3\n", "1: `from` is too much in this line");
     one("kind sheets\nlamp is led 64\n", "2: sheet 64 is outside this book's sheets, 0 to 63");
@@ -134,6 +163,20 @@ fn files_that_are_no_text() {
     assert_eq!(faults(b"\xFF\xFEk\0"), ["1: this is not plain text (UTF-8)"]);
 }
 
+/// What cannot be seen would make two names of one, or hide a line behind a comment.
+#[test]
+fn characters_that_cannot_be_seen() {
+    let unseen = |line: &str, code: &str| {
+        second_line(line, &format!("there is a character here that cannot be printed: {code}"));
+    };
+    unseen("\u{FEFF}lamp is led 2000", "U+FEFF");
+    unseen("lamp is led\u{200B} 2000", "U+200B");
+    unseen("lamp is l\u{AD}ed 2000", "U+00AD");
+    unseen("lamp is \"a\u{202E}b\" 2000", "U+202E");
+    unseen("# rear lamps\u{2028}lamp is led 2000", "U+2028");
+    unseen("# rear lamps\rlamp is led 2000", "U+000D");
+}
+
 /// A mark at the file's beginning, tabs, line ends of another system, no line end at the end.
 #[test]
 fn other_peoples_editors() {
@@ -151,5 +194,9 @@ fn names_run_out() {
     };
     assert_eq!(faults(names(16_378).as_bytes()).len(), 0);
     let found = faults(names(16_379).as_bytes());
-    assert_eq!(found, ["16380: n16378 is one name too many: a book has 16379"]);
+    assert_eq!(found, ["16380: n16378 is one name too many: a text has at most 16379"]);
+    let quoted = (0..=16_384).map(|number| format!("ask \"n {number}\" is led always\n"));
+    let found = faults(common::years(&quoted.collect::<String>()).as_bytes());
+    let one = "16386: \"n 16384\" is one quoted text too many: a text has at most 16384";
+    assert_eq!(found, [one]);
 }

@@ -2,7 +2,8 @@
 
 mod common;
 use common::*;
-use fitting::programs::{read_counted, Refusal};
+use fitting::annotation::Kind;
+use fitting::programs::{read_closed, read_counted, Refusal};
 use fitting::refusal::{advice, words, Refused};
 
 /// The book is refused, by both programs, and the message begins like this.
@@ -76,14 +77,15 @@ fn number_12_of_a_question() {
     let rows: String = (0..257).map(|number| format!("n{number} is led 2000\n")).collect();
     let (asked, done) = ask(&years(&format!("{rows}ask ?x is led ?w\n")));
     assert_eq!(asked.lines().filter(|line| line.contains("?x = ")).count(), 256);
-    let last =
-        "t.fit:259: refused 12: no room\n    More answers than 256; these are the first 256.\n";
+    let last = "t.fit:259: refused 12: no room\n    \
+                There are more than 256 answers; these are the first 256.\n";
     assert!(!done && asked.ends_with(&format!("{last}    256 answers, 257 looks\n")), "{asked}");
 }
 
 #[test]
 fn number_13() {
-    book(&years(&"lamp is led 2000\n".repeat(3855)), "t.fit: refused 13: book over 65,535 bytes\n");
+    let room = "t.fit: refused 13: book over 65,535 bytes\n    A book has room for 3,854 lines;";
+    book(&years(&"lamp is led 2000\n".repeat(3855)), room);
     assert!(close(&years(&"lamp is led 2000\n".repeat(3854))).1);
 }
 
@@ -101,7 +103,9 @@ fn number_19() {
 fn number_20() {
     let parts = |triples: usize| format!("ask {}", vec!["?x is led ?w"; triples].join("\nand "));
     let twenty = "t.fit:19: refused 20, field at byte 384: a 33rd part";
-    question("sheets", &parts(17), &[twenty, "and ?x is led ?w"]);
+    let counted = advice(Refused::Question, Refusal { number: 20, place: 384 }).unwrap();
+    assert!(counted.contains("each `and` or `or` between them, and each test"), "{counted}");
+    question("sheets", &parts(17), &[twenty, "and ?x is led ?w", counted]);
     let (_, done) = ask(&format!("kind sheets\nlamp is led 1\n{} where ?x = lamp\n", parts(16)));
     assert!(done, "32 parts");
 }
@@ -115,7 +119,11 @@ fn numbers_21_and_22() {
     let words = "test's annotation variable also stands in a TRIPLE outside that part";
     let place = format!("t.fit:4: refused 22, ONLY field at byte 24: {words}");
     let outside = "ask ?x is led ?w and\n(?x is led ?w where ?w covers 3)";
-    question("sheets", outside, &[&place, "(?x is led ?w where ?w covers 3)"]);
+    let instead = advice(Refused::Question, Refusal { number: 22, place: 24 }).unwrap();
+    assert!(instead.ends_with("or use another variable there."), "{instead}");
+    question("sheets", outside, &[&place, "(?x is led ?w where ?w covers 3)", instead]);
+    let at_the_end = "ask ?x is led ?w and\n?x is led ?w where ?w covers 3\n";
+    assert!(ask(&format!("kind sheets\nlamp is led always\n{at_the_end}")).1);
 }
 
 /// Four thousand million looks are not waited for; the counter's line is read.
@@ -139,4 +147,22 @@ fn lines_that_no_program_prints() {
     ] {
         assert_eq!(read_counted(printed), None, "{printed}");
     }
+}
+
+/// A listing of another kind, another base year, too few or too many rows.
+#[test]
+fn listings_that_no_program_prints() {
+    let read = |printed: &str| read_closed(printed, Some(Kind::Years { base: 2000 }));
+    assert!(read("closed 1 2000 1\n5 2 6 1\n").is_some());
+    for printed in [
+        "closed 2 2000 1\n5 2 6 1\n",
+        "closed 1 1999 1\n5 2 6 1\n",
+        "closed 1 2000 2\n5 2 6 1\n",
+        "closed 1 2000 0\n5 2 6 1\n",
+        "closed 1 2000 1\n5 2 65536 1\n",
+        "",
+    ] {
+        assert_eq!(read(printed), None, "{printed}");
+    }
+    assert_eq!(read_closed("closed 1 2000 0\n", None), None, "a book without a kind");
 }
