@@ -21,7 +21,7 @@ use ghost.Atoms.{Atoms, sem}
 use contract.Lifetimes.{Lfts, Shares}
 use contract.Monad.{Fun, fact}
 use contract.Running.{givenOf, tables, tablesOf}
-use types.Kit.{Given, Item, ‵, raw, _⊛_, given, some, later, ⋆, runs, anyQ, atRet, Sq, _$_, _∵_, !, qed, by, cut, move, keep, drop, use1, use2, use3, split, join, pick, learn, rewrite, fsplit, fjoin, feqL, suffices, frame, await, updating, now as at-once, show, check, done}
+use types.Kit.{Given, Item, ‵, raw, _⊛_, given, some, later, ⋆, runs, anyQ, atRet, prop, frees, Sq, _$_, _∵_, !, qed, by, cut, move, keep, drop, use1, use2, use3, split, join, pick, learn, rewrite, fsplit, fjoin, feqL, suffices, frame, await, updating, now as at-once, show, check, done}
 use types.Part.{agg, whole, sub, look-in}
 use types.Run.{look, init, store, forget, stop, hop, fld, from, load, lit, of-opd, addr, bin, and-then, no-more, assigns, land, land-last, first, blocks, returns, returns-within, enter, alloc1, alloc0, params1, pass1, pass0, free1, free0, exec, Below, again, loops}
 use sound.WpLaws.{fmOf, WpFn-mono}
@@ -346,16 +346,33 @@ module _ {M : Type 1} (𝓤 : URA M) (H : Heap 𝓤) (A : Atoms 𝓤) (W : Given
       abbrev En : Env 𝓤 H
       En = (F′.mir, l₀) ∷ (tyInt w8, l₁) ∷ (bytesT (named 0), l₂) ∷ (laneT (named 1) w16, l₃) ∷ (laneT (named 2) w16, l₄) ∷ (laneT (named 3) w16, l₅) ∷ (laneT (named 4) w64, l₆) ∷ (readerT, l₇) ∷ (word, l₈) ∷ (S′.mir, l₉) ∷ (D′.mir, l₁₀) ∷ (word, l₁₁) ∷ (word, l₁₂) ∷ (tyBool, l₁₃) ∷ (readerT, l₁₄) ∷ (bytesT erased, l₁₅) ∷ (word, l₁₆) ∷ (tyRef erased mut (tyInt w16), l₁₇) ∷ (laneT erased w16, l₁₈) ∷ (tyRef erased mut (tyInt w16), l₁₉) ∷ (laneT erased w16, l₂₀) ∷ (tyRef erased mut (tyInt w16), l₂₁) ∷ (laneT erased w16, l₂₂) ∷ (tyRef erased mut (tyInt w64), l₂₃) ∷ (laneT erased w64, l₂₄) ∷ (word, l₂₅) ∷ (readerT, l₂₆) ∷ (word, l₂₇) ∷ []
 
+      -- _27 to _9, between turns, in front of what is said of the rest
+      abbrev Spare : List (Item 𝓤) → List (Item 𝓤)
+      Spare Γ =
+          ‵ (froom word l₂₇ 0) ∷ ‵ (fdies word l₂₇) ∷ ‵ (froom readerT l₂₆ 0) ∷ ‵ (fdies readerT l₂₆) ∷ ‵ (froom word l₂₅ 0) ∷ ‵ (fdies word l₂₅)
+          ∷ ‵ (froom (laneT erased w64) l₂₄ 0) ∷ ‵ (fdies (laneT erased w64) l₂₄) ∷ ‵ (froom (tyRef erased mut (tyInt w64)) l₂₃ 0) ∷ ‵ (fdies (tyRef erased mut (tyInt w64)) l₂₃) ∷ ‵ (froom (laneT erased w16) l₂₂ 0) ∷ ‵ (fdies (laneT erased w16) l₂₂)
+          ∷ ‵ (froom (tyRef erased mut (tyInt w16)) l₂₁ 0) ∷ ‵ (fdies (tyRef erased mut (tyInt w16)) l₂₁) ∷ ‵ (froom (laneT erased w16) l₂₀ 0) ∷ ‵ (fdies (laneT erased w16) l₂₀) ∷ ‵ (froom (tyRef erased mut (tyInt w16)) l₁₉ 0) ∷ ‵ (fdies (tyRef erased mut (tyInt w16)) l₁₉)
+          ∷ ‵ (froom (laneT erased w16) l₁₈ 0) ∷ ‵ (fdies (laneT erased w16) l₁₈) ∷ ‵ (froom (tyRef erased mut (tyInt w16)) l₁₇ 0) ∷ ‵ (fdies (tyRef erased mut (tyInt w16)) l₁₇) ∷ ‵ (froom word l₁₆ 0) ∷ ‵ (fdies word l₁₆)
+          ∷ ‵ (froom (bytesT erased) l₁₅ 0) ∷ ‵ (fdies (bytesT erased) l₁₅) ∷ ‵ (froom readerT l₁₄ 0) ∷ ‵ (fdies readerT l₁₄) ∷ ‵ (froom tyBool l₁₃ 0) ∷ ‵ (fdies tyBool l₁₃)
+          ∷ ‵ (froom word l₁₂ 0) ∷ ‵ (fdies word l₁₂) ∷ ‵ (froom word l₁₁ 0) ∷ ‵ (fdies word l₁₁) ∷ ‵ (froom D′.mir l₁₀ 0) ∷ ‵ (fdies D′.mir l₁₀)
+          ∷ ‵ (froom S′.mir l₉ 0) ∷ ‵ (fdies S′.mir l₉) ∷ Γ
+
       -- [the bytes' token; the bytes; the lanes; _27; …; _0; …], so that _i stands at 57 − 2 i
       abbrev At : here → List (Item 𝓤)
-      At x = ‵ Tok ∷ ‵ Book ∷ ‵ (held (x .m))
-          ∷ ‵ (froom word l₂₇ 0) ∷ ‵ (fdies word l₂₇) ∷ ‵ (froom readerT l₂₆ 0) ∷ ‵ (fdies readerT l₂₆) ∷ ‵ (froom word l₂₅ 0) ∷ ‵ (fdies word l₂₅) ∷ ‵ (froom (laneT erased w64) l₂₄ 0) ∷ ‵ (fdies (laneT erased w64) l₂₄)
-          ∷ ‵ (froom (tyRef erased mut (tyInt w64)) l₂₃ 0) ∷ ‵ (fdies (tyRef erased mut (tyInt w64)) l₂₃) ∷ ‵ (froom (laneT erased w16) l₂₂ 0) ∷ ‵ (fdies (laneT erased w16) l₂₂) ∷ ‵ (froom (tyRef erased mut (tyInt w16)) l₂₁ 0) ∷ ‵ (fdies (tyRef erased mut (tyInt w16)) l₂₁) ∷ ‵ (froom (laneT erased w16) l₂₀ 0) ∷ ‵ (fdies (laneT erased w16) l₂₀)
-          ∷ ‵ (froom (tyRef erased mut (tyInt w16)) l₁₉ 0) ∷ ‵ (fdies (tyRef erased mut (tyInt w16)) l₁₉) ∷ ‵ (froom (laneT erased w16) l₁₈ 0) ∷ ‵ (fdies (laneT erased w16) l₁₈) ∷ ‵ (froom (tyRef erased mut (tyInt w16)) l₁₇ 0) ∷ ‵ (fdies (tyRef erased mut (tyInt w16)) l₁₇) ∷ ‵ (froom word l₁₆ 0) ∷ ‵ (fdies word l₁₆)
-          ∷ ‵ (froom (bytesT erased) l₁₅ 0) ∷ ‵ (fdies (bytesT erased) l₁₅) ∷ ‵ (froom readerT l₁₄ 0) ∷ ‵ (fdies readerT l₁₄) ∷ ‵ (froom tyBool l₁₃ 0) ∷ ‵ (fdies tyBool l₁₃) ∷ ‵ (froom word l₁₂ 0) ∷ ‵ (fdies word l₁₂)
-          ∷ ‵ (froom word l₁₁ 0) ∷ ‵ (fdies word l₁₁) ∷ ‵ (froom D′.mir l₁₀ 0) ∷ ‵ (fdies D′.mir l₁₀) ∷ ‵ (froom S′.mir l₉ 0) ∷ ‵ (fdies S′.mir l₉) ∷ ‵ (fat fullShare word l₈ 0 (vint w64 (x .count))) ∷ ‵ (fdies word l₈)
-          ∷ ‵ (fat fullShare readerT l₇ 0 (T′.lowered (reader (x .at)))) ∷ ‵ (fdies readerT l₇) ∷ ‵ (fat fullShare (laneT (named 4) w64) l₆ 0 (val ann)) ∷ ‵ (fdies (laneT (named 4) w64) l₆) ∷ ‵ (fat fullShare (laneT (named 3) w16) l₅ 0 (val obj)) ∷ ‵ (fdies (laneT (named 3) w16) l₅) ∷ ‵ (fat fullShare (laneT (named 2) w16) l₄ 0 (val pred)) ∷ ‵ (fdies (laneT (named 2) w16) l₄)
-          ∷ ‵ (fat fullShare (laneT (named 1) w16) l₃ 0 (val subj)) ∷ ‵ (fdies (laneT (named 1) w16) l₃) ∷ ‵ (fat fullShare (bytesT (named 0)) l₂ 0 vb) ∷ ‵ (fdies (bytesT (named 0)) l₂) ∷ ‵ (fat fullShare (tyInt w8) l₁ 0 (vint w8 kind)) ∷ ‵ (fdies (tyInt w8) l₁) ∷ ‵ (froom F′.mir l₀ 0) ∷ ‵ (fdies F′.mir l₀) ∷ []
+      At x = ‵ Tok ∷ ‵ Book ∷ ‵ (held (x .m)) ∷ Spare (
+          ‵ (fat fullShare word l₈ 0 (vint w64 (x .count))) ∷ ‵ (fdies word l₈) ∷ ‵ (fat fullShare readerT l₇ 0 (T′.lowered (reader (x .at)))) ∷ ‵ (fdies readerT l₇) ∷ ‵ (fat fullShare (laneT (named 4) w64) l₆ 0 (val ann)) ∷ ‵ (fdies (laneT (named 4) w64) l₆)
+          ∷ ‵ (fat fullShare (laneT (named 3) w16) l₅ 0 (val obj)) ∷ ‵ (fdies (laneT (named 3) w16) l₅) ∷ ‵ (fat fullShare (laneT (named 2) w16) l₄ 0 (val pred)) ∷ ‵ (fdies (laneT (named 2) w16) l₄) ∷ ‵ (fat fullShare (laneT (named 1) w16) l₃ 0 (val subj)) ∷ ‵ (fdies (laneT (named 1) w16) l₃)
+          ∷ ‵ (fat fullShare (bytesT (named 0)) l₂ 0 vb) ∷ ‵ (fdies (bytesT (named 0)) l₂) ∷ ‵ (fat fullShare (tyInt w8) l₁ 0 (vint w8 kind)) ∷ ‵ (fdies (tyInt w8) l₁) ∷ ‵ (froom F′.mir l₀ 0) ∷ ‵ (fdies F′.mir l₀) ∷ [])
+
+      -- the locals are freed, one by one
+      abbrev Rooms : Lanes → List (Item 𝓤)
+      Rooms m = ‵ Tok ∷ ‵ Book ∷ ‵ (held m) ∷ Spare (
+          ‵ (froom word l₈ 0) ∷ ‵ (fdies word l₈) ∷ ‵ (froom readerT l₇ 0) ∷ ‵ (fdies readerT l₇) ∷ ‵ (froom (laneT (named 4) w64) l₆ 0) ∷ ‵ (fdies (laneT (named 4) w64) l₆)
+          ∷ ‵ (froom (laneT (named 3) w16) l₅ 0) ∷ ‵ (fdies (laneT (named 3) w16) l₅) ∷ ‵ (froom (laneT (named 2) w16) l₄ 0) ∷ ‵ (fdies (laneT (named 2) w16) l₄) ∷ ‵ (froom (laneT (named 1) w16) l₃ 0) ∷ ‵ (fdies (laneT (named 1) w16) l₃)
+          ∷ ‵ (froom (bytesT (named 0)) l₂ 0) ∷ ‵ (fdies (bytesT (named 0)) l₂) ∷ ‵ (froom (tyInt w8) l₁ 0) ∷ ‵ (fdies (tyInt w8) l₁) ∷ ‵ (froom F′.mir l₀ 0) ∷ ‵ (fdies F′.mir l₀) ∷ [])
+
+      freed : (v : Val) (m : Lanes) → ent 𝓤 (⋆ 𝓤 H A (‵ Tok ∷ ‵ Book ∷ ‵ (held m) ∷ [])) (Post v) → Sq W (Rooms m) (frees En (prop (Post v)))
+      freed v m ends = move ! (57 ∷ 58 ∷ []) $ free1 ! $ move ! (55 ∷ 56 ∷ []) $ free1 ! $ move ! (53 ∷ 54 ∷ []) $ free1 ! $ move ! (51 ∷ 52 ∷ []) $ free1 ! $ move ! (49 ∷ 50 ∷ []) $ free1 ! $ move ! (47 ∷ 48 ∷ []) $ free1 ! $ move ! (45 ∷ 46 ∷ []) $ free1 ! $ move ! (43 ∷ 44 ∷ []) $ free1 ! $ move ! (41 ∷ 42 ∷ []) $ free1 ! $ move ! (39 ∷ 40 ∷ []) $ free1 ! $ move ! (37 ∷ 38 ∷ []) $ free1 ! $ move ! (35 ∷ 36 ∷ []) $ free1 ! $ move ! (33 ∷ 34 ∷ []) $ free1 ! $ move ! (31 ∷ 32 ∷ []) $ free1 ! $ move ! (29 ∷ 30 ∷ []) $ free1 ! $ move ! (27 ∷ 28 ∷ []) $ free1 ! $ move ! (25 ∷ 26 ∷ []) $ free1 ! $ move ! (23 ∷ 24 ∷ []) $ free1 ! $ move ! (21 ∷ 22 ∷ []) $ free1 ! $ move ! (19 ∷ 20 ∷ []) $ free1 ! $ move ! (17 ∷ 18 ∷ []) $ free1 ! $ move ! (15 ∷ 16 ∷ []) $ free1 ! $ move ! (13 ∷ 14 ∷ []) $ free1 ! $ move ! (11 ∷ 12 ∷ []) $ free1 ! $ move ! (9 ∷ 10 ∷ []) $ free1 ! $ move ! (7 ∷ 8 ∷ []) $ free1 ! $ move ! (5 ∷ 6 ∷ []) $ free1 ! $ move ! (3 ∷ 4 ∷ []) $ free1 ! $ free0 ! $ by ! ends
 
       -- a turn's postcondition: it ends nearer to the end of the bytes, or the loop is left and the rest of the body runs
       abbrev Turned : here → Out → SProp 𝓤
@@ -405,8 +422,8 @@ module _ {M : Type 1} (𝓤 : URA M) (H : Heap 𝓤) (A : Atoms 𝓤) (W : Given
           assigns ! (of-opd ! (load ! (from ! (fld ! refl (stop !))) (look-in ! 43 (sub ! 1 refl (whole !))))) (from ! (stop !)) (init ! 7 refl (tt, record { fits = x .at-fits })) $
           assigns ! (agg ! (and-then ! (load ! (from ! (fld ! refl (stop !))) (look-in ! 37 (sub ! 0 refl (whole !)))) (and-then ! (load ! (from ! (stop !)) (look ! 7 refl)) (and-then ! (load ! (from ! (fld ! refl (stop !))) (look-in ! 37 (sub ! 1 refl (whole !)))) (no-more !))))) (from ! (stop !)) (init ! 57 refl (tt, (record { fits = fits .0 }, (record { fits = x .at-fits }, (record { fits = fits .1 }, tt))))) $
           returns-within ! Post refl (look ! 57 refl) $ forget ! 7 refl $ forget ! 9 refl $ forget ! 11 refl $ forget ! 13 refl $ forget ! 15 refl $ forget ! 17 refl $ forget ! 19 refl $ forget ! 21 refl $ forget ! 23 refl $ forget ! 25 refl $ forget ! 27 refl $ forget ! 29 refl $ forget ! 31 refl $ forget ! 33 refl $ forget ! 35 refl $ forget ! 37 refl $ forget ! 39 refl $ forget ! 41 refl $ forget ! 43 refl $ forget ! 45 refl $ forget ! 47 refl $ forget ! 49 refl $ forget ! 51 refl $ forget ! 53 refl $ forget ! 55 refl $ forget ! 57 refl $
-          move ! (57 ∷ 58 ∷ []) $ free1 ! $ move ! (55 ∷ 56 ∷ []) $ free1 ! $ move ! (53 ∷ 54 ∷ []) $ free1 ! $ move ! (51 ∷ 52 ∷ []) $ free1 ! $ move ! (49 ∷ 50 ∷ []) $ free1 ! $ move ! (47 ∷ 48 ∷ []) $ free1 ! $ move ! (45 ∷ 46 ∷ []) $ free1 ! $ move ! (43 ∷ 44 ∷ []) $ free1 ! $ move ! (41 ∷ 42 ∷ []) $ free1 ! $ move ! (39 ∷ 40 ∷ []) $ free1 ! $ move ! (37 ∷ 38 ∷ []) $ free1 ! $ move ! (35 ∷ 36 ∷ []) $ free1 ! $ move ! (33 ∷ 34 ∷ []) $ free1 ! $ move ! (31 ∷ 32 ∷ []) $ free1 ! $ move ! (29 ∷ 30 ∷ []) $ free1 ! $ move ! (27 ∷ 28 ∷ []) $ free1 ! $ move ! (25 ∷ 26 ∷ []) $ free1 ! $ move ! (23 ∷ 24 ∷ []) $ free1 ! $ move ! (21 ∷ 22 ∷ []) $ free1 ! $ move ! (19 ∷ 20 ∷ []) $ free1 ! $ move ! (17 ∷ 18 ∷ []) $ free1 ! $ move ! (15 ∷ 16 ∷ []) $ free1 ! $ move ! (13 ∷ 14 ∷ []) $ free1 ! $ move ! (11 ∷ 12 ∷ []) $ free1 ! $ move ! (9 ∷ 10 ∷ []) $ free1 ! $ move ! (7 ∷ 8 ∷ []) $ free1 ! $ move ! (5 ∷ 6 ∷ []) $ free1 ! $ move ! (3 ∷ 4 ∷ []) $ free1 ! $ free0 ! $
-          by ! (exits (record { number = r .number; place = x .at; count = r .count }) m (done-is (record { number = r .number; place = x .at; count = r .count }) (fits .0) (x .at-fits) (fits .1)) (e .1)
+          freed (F′.lowered (record { number = r .number; place = x .at; count = r .count })) m
+          (exits (record { number = r .number; place = x .at; count = r .count }) m (done-is (record { number = r .number; place = x .at; count = r .count }) (fits .0) (x .at-fits) (fits .1)) (e .1)
           (reached-stop kind bytes l (x .m) (x .at) (x .count) (x .reached) less m (r .number) (r .count) (e .0) (ltb→lt 0 (r .number) some-number))))
           -- the reader goes on
           (λ no-number. let none : r .number ≤ 0 = nltb→le 0 (r .number) no-number in let ok : x .at + 17 < 2 ^ 64 = on-fits x less r m (e .0) none in
@@ -425,8 +442,8 @@ module _ {M : Type 1} (𝓤 : URA M) (H : Heap 𝓤) (A : Atoms 𝓤) (W : Given
           (λ over. exec ! C Λ En body.t-4 (atRet En Post) $
           assigns ! (agg ! (and-then ! (lit ! tt) (and-then ! (lit ! tt) (and-then ! (load ! (from ! (stop !)) (look ! 41 refl)) (no-more !))))) (from ! (stop !)) (init ! 57 refl (tt, (record { fits = lit< tt }, (record { fits = lit< tt }, (record { fits = x .count-fits }, tt))))) $
           returns ! (look ! 57 refl) $ forget ! 31 refl $ forget ! 33 refl $ forget ! 35 refl $ forget ! 41 refl $ forget ! 43 refl $ forget ! 45 refl $ forget ! 47 refl $ forget ! 49 refl $ forget ! 51 refl $ forget ! 53 refl $ forget ! 55 refl $ forget ! 57 refl $
-          move ! (57 ∷ 58 ∷ []) $ free1 ! $ move ! (55 ∷ 56 ∷ []) $ free1 ! $ move ! (53 ∷ 54 ∷ []) $ free1 ! $ move ! (51 ∷ 52 ∷ []) $ free1 ! $ move ! (49 ∷ 50 ∷ []) $ free1 ! $ move ! (47 ∷ 48 ∷ []) $ free1 ! $ move ! (45 ∷ 46 ∷ []) $ free1 ! $ move ! (43 ∷ 44 ∷ []) $ free1 ! $ move ! (41 ∷ 42 ∷ []) $ free1 ! $ move ! (39 ∷ 40 ∷ []) $ free1 ! $ move ! (37 ∷ 38 ∷ []) $ free1 ! $ move ! (35 ∷ 36 ∷ []) $ free1 ! $ move ! (33 ∷ 34 ∷ []) $ free1 ! $ move ! (31 ∷ 32 ∷ []) $ free1 ! $ move ! (29 ∷ 30 ∷ []) $ free1 ! $ move ! (27 ∷ 28 ∷ []) $ free1 ! $ move ! (25 ∷ 26 ∷ []) $ free1 ! $ move ! (23 ∷ 24 ∷ []) $ free1 ! $ move ! (21 ∷ 22 ∷ []) $ free1 ! $ move ! (19 ∷ 20 ∷ []) $ free1 ! $ move ! (17 ∷ 18 ∷ []) $ free1 ! $ move ! (15 ∷ 16 ∷ []) $ free1 ! $ move ! (13 ∷ 14 ∷ []) $ free1 ! $ move ! (11 ∷ 12 ∷ []) $ free1 ! $ move ! (9 ∷ 10 ∷ []) $ free1 ! $ move ! (7 ∷ 8 ∷ []) $ free1 ! $ move ! (5 ∷ 6 ∷ []) $ free1 ! $ move ! (3 ∷ 4 ∷ []) $ free1 ! $ free0 ! $
-          by ! (exits (record { number = 0; place = 0; count = x .count }) (x .m) (done-is (record { number = 0; place = 0; count = x .count }) (lit< tt) (lit< tt) (x .count-fits)) (x .as-long)
+          freed (F′.lowered (record { number = 0; place = 0; count = x .count })) (x .m)
+          (exits (record { number = 0; place = 0; count = x .count }) (x .m) (done-is (record { number = 0; place = 0; count = x .count }) (lit< tt) (lit< tt) (x .count-fits)) (x .as-long)
           (reached-end kind bytes l (x .m) (x .at) (x .count) (x .reached) (fresh .sound) (nltb→le (x .at) (length bytes) over))))
 
       looped : Sq W (At start) (runs C Λ En body.t-3 (atRet En Post))
@@ -434,14 +451,10 @@ module _ {M : Type 1} (𝓤 : URA M) (H : Heap 𝓤) (A : Atoms 𝓤) (W : Given
 
       -- before the first statement
       abbrev At₀ : List (Item 𝓤)
-      At₀ = ‵ Tok ∷ ‵ Book ∷ ‵ (held l)
-          ∷ ‵ (froom word l₂₇ 0) ∷ ‵ (fdies word l₂₇) ∷ ‵ (froom readerT l₂₆ 0) ∷ ‵ (fdies readerT l₂₆) ∷ ‵ (froom word l₂₅ 0) ∷ ‵ (fdies word l₂₅) ∷ ‵ (froom (laneT erased w64) l₂₄ 0) ∷ ‵ (fdies (laneT erased w64) l₂₄)
-          ∷ ‵ (froom (tyRef erased mut (tyInt w64)) l₂₃ 0) ∷ ‵ (fdies (tyRef erased mut (tyInt w64)) l₂₃) ∷ ‵ (froom (laneT erased w16) l₂₂ 0) ∷ ‵ (fdies (laneT erased w16) l₂₂) ∷ ‵ (froom (tyRef erased mut (tyInt w16)) l₂₁ 0) ∷ ‵ (fdies (tyRef erased mut (tyInt w16)) l₂₁) ∷ ‵ (froom (laneT erased w16) l₂₀ 0) ∷ ‵ (fdies (laneT erased w16) l₂₀)
-          ∷ ‵ (froom (tyRef erased mut (tyInt w16)) l₁₉ 0) ∷ ‵ (fdies (tyRef erased mut (tyInt w16)) l₁₉) ∷ ‵ (froom (laneT erased w16) l₁₈ 0) ∷ ‵ (fdies (laneT erased w16) l₁₈) ∷ ‵ (froom (tyRef erased mut (tyInt w16)) l₁₇ 0) ∷ ‵ (fdies (tyRef erased mut (tyInt w16)) l₁₇) ∷ ‵ (froom word l₁₆ 0) ∷ ‵ (fdies word l₁₆)
-          ∷ ‵ (froom (bytesT erased) l₁₅ 0) ∷ ‵ (fdies (bytesT erased) l₁₅) ∷ ‵ (froom readerT l₁₄ 0) ∷ ‵ (fdies readerT l₁₄) ∷ ‵ (froom tyBool l₁₃ 0) ∷ ‵ (fdies tyBool l₁₃) ∷ ‵ (froom word l₁₂ 0) ∷ ‵ (fdies word l₁₂)
-          ∷ ‵ (froom word l₁₁ 0) ∷ ‵ (fdies word l₁₁) ∷ ‵ (froom D′.mir l₁₀ 0) ∷ ‵ (fdies D′.mir l₁₀) ∷ ‵ (froom S′.mir l₉ 0) ∷ ‵ (fdies S′.mir l₉) ∷ ‵ (froom word l₈ 0) ∷ ‵ (fdies word l₈)
-          ∷ ‵ (froom readerT l₇ 0) ∷ ‵ (fdies readerT l₇) ∷ ‵ (fat fullShare (laneT (named 4) w64) l₆ 0 (val ann)) ∷ ‵ (fdies (laneT (named 4) w64) l₆) ∷ ‵ (fat fullShare (laneT (named 3) w16) l₅ 0 (val obj)) ∷ ‵ (fdies (laneT (named 3) w16) l₅) ∷ ‵ (fat fullShare (laneT (named 2) w16) l₄ 0 (val pred)) ∷ ‵ (fdies (laneT (named 2) w16) l₄)
-          ∷ ‵ (fat fullShare (laneT (named 1) w16) l₃ 0 (val subj)) ∷ ‵ (fdies (laneT (named 1) w16) l₃) ∷ ‵ (fat fullShare (bytesT (named 0)) l₂ 0 vb) ∷ ‵ (fdies (bytesT (named 0)) l₂) ∷ ‵ (fat fullShare (tyInt w8) l₁ 0 (vint w8 kind)) ∷ ‵ (fdies (tyInt w8) l₁) ∷ ‵ (froom F′.mir l₀ 0) ∷ ‵ (fdies F′.mir l₀) ∷ []
+      At₀ = ‵ Tok ∷ ‵ Book ∷ ‵ (held l) ∷ Spare (
+          ‵ (froom word l₈ 0) ∷ ‵ (fdies word l₈) ∷ ‵ (froom readerT l₇ 0) ∷ ‵ (fdies readerT l₇) ∷ ‵ (fat fullShare (laneT (named 4) w64) l₆ 0 (val ann)) ∷ ‵ (fdies (laneT (named 4) w64) l₆)
+          ∷ ‵ (fat fullShare (laneT (named 3) w16) l₅ 0 (val obj)) ∷ ‵ (fdies (laneT (named 3) w16) l₅) ∷ ‵ (fat fullShare (laneT (named 2) w16) l₄ 0 (val pred)) ∷ ‵ (fdies (laneT (named 2) w16) l₄) ∷ ‵ (fat fullShare (laneT (named 1) w16) l₃ 0 (val subj)) ∷ ‵ (fdies (laneT (named 1) w16) l₃)
+          ∷ ‵ (fat fullShare (bytesT (named 0)) l₂ 0 vb) ∷ ‵ (fdies (bytesT (named 0)) l₂) ∷ ‵ (fat fullShare (tyInt w8) l₁ 0 (vint w8 kind)) ∷ ‵ (fdies (tyInt w8) l₁) ∷ ‵ (froom F′.mir l₀ 0) ∷ ‵ (fdies F′.mir l₀) ∷ [])
 
       begins : Sq W At₀ (runs C Λ En body.t-1 (atRet En Post))
       begins =
