@@ -1,6 +1,5 @@
 // Field after field into the lent lanes.
 ghost use mathlib.Core.Path.{_≡_};
-ghost use mathlib.Core.Bool.{cond};
 ghost use Rattle.field.specs.Fields.{fieldAt};
 ghost use Rattle.table.specs.Rows.{row, lanes};
 ghost use Rattle.book.specs.Inner.{FieldInto, FieldPut, Fresh, FieldsRead};
@@ -10,6 +9,7 @@ use field::reader::field;
 use field::reader::moved;
 use field::reader::stand;
 use table::put::put_found;
+use table::room_number;
 
 pub const HEAD_BYTES: usize = 7;
 
@@ -65,12 +65,6 @@ fn read_field(
         number: room_number(done.full),
         count: done.count,
     }
-}
-
-pub fn room_number(full: bool) -> u8
-    ensures { λ r. ⌜ r ≡ cond full 12 0 ⌝ }
-{
-    if full { table::NO_ROOM } else { 0 }
 }
 
 // Every field after the head, in order, until one is refused. One reader is held, and goes from field to field.

@@ -1,6 +1,5 @@
 // A table as a book: the head, then a field for each row in table order.
 ghost use mathlib.Core.Path.{_≡_};
-ghost use mathlib.Core.Bool.{cond};
 ghost use Prim.Native.Nat.{_+_, _*_, _≤_};
 ghost use lib.ListN.{length};
 ghost use Rattle.term.specs.Refusal.{first};
@@ -13,11 +12,11 @@ use crate::content::EDITION;
 use crate::content::HEAD_TAG;
 use crate::content::TRIPLE_TAG;
 use crate::content::base_refusal;
-use crate::fields::room_number;
 use field::number::put_eight;
 use field::number::put_front;
 use field::number::put_pair;
 use field::number::put_two;
+use table::room_number;
 use term::refusal::Verdict;
 
 // Tag, length and content of the head.

@@ -98,7 +98,8 @@ pub fn add(
     }
 }
 
-fn room_number(full: bool) -> u8
+// 12 where there was no room.
+pub fn room_number(full: bool) -> u8
     ensures { λ r. ⌜ r ≡ cond full 12 0 ⌝ }
 {
     if full { NO_ROOM } else { 0 }
