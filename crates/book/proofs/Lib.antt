@@ -2,7 +2,6 @@
 pub mod Heads
 pub mod Contents
 pub mod FieldByField
-pub mod Walk
 pub mod LentOn
 pub mod Whole
 pub mod Writes

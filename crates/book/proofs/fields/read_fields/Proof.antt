@@ -47,6 +47,8 @@ use denote.Exit.{yes}
 use Rattle.field.specs.Fields.{fieldAt}
 use Rattle.field.specs.declared.Field.{Field}
 use Rattle.field.specs.declared.reader.Reader.{Reader}
+use Rattle.field.proofs.Looping.{Nearer, nearer-wf, whiles, ifs}
+use Rattle.field.proofs.LentOn.{under, val, Lane, lane-back}
 use Rattle.field.proofs.Field as S
 use Rattle.field.proofs.Field.Laws as S′
 use Rattle.field.proofs.reader.Reader as T
@@ -67,8 +69,7 @@ use Rattle.table.specs.Rows.{Lanes, lanes}
 use Rattle.book.specs.Inner.{FieldPut, Fresh, Reached, FieldsRead}
 use Rattle.book.specs.declared.fields.FieldDone.{FieldDone}
 use Rattle.book.specs.declared.fields.FieldsDone.{FieldsDone}
-use Rattle.book.proofs.Walk.{Nearer, nearer-wf, whiles, ifs}
-use Rattle.book.proofs.LentOn.{Names, under, val, Lane, Held, AllLent, AllKept, AsLong, lane-back, lanes-out}
+use Rattle.book.proofs.LentOn.{Names, Held, AllLent, AllKept, AsLong, lanes-out}
 use Rattle.book.proofs.FieldByField.{reached-start, reached-into, reached-step, reached-stop, reached-end}
 use Rattle.book.proofs.fields.FieldDone as D
 use Rattle.book.proofs.fields.FieldDone.Laws as D′
