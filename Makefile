@@ -1,5 +1,7 @@
 # `make run` proves the two programs and runs them on the samples; `make test` is the gate.
 .PHONY: run test host fitting bench soak fuzz
+# Two rt over one tree spoil each other's target/.
+.NOTPARALLEL:
 
 run: fitting
 	rt check close_book counter
@@ -11,9 +13,12 @@ run: fitting
 test:
 	.ci/run
 
+# A static library is proved once, and again only where a crate has changed.
+target/staticlib/lib%.a: crates.txt $(shell find crates -name '*.rt' -o -name '*.antt')
+	rt staticlib $*
+
 # The C host over the exported call.
-host:
-	rt staticlib trackvesper
+host: target/staticlib/libtrackvesper.a
 	mkdir -p target/host
 	cc -std=c11 -Wall -Wextra -Werror -O2 -o target/host/close_book examples/close_book.c target/staticlib/libtrackvesper.a
 
@@ -25,8 +30,7 @@ fitting:
 MINUTES ?= 10
 SEED ?= 1000000
 
-soak:
-	rt staticlib trial_calls
+soak: target/staticlib/libtrial_calls.a
 	cd trial && CARGO_TARGET_DIR=../target/trial cargo run --release --offline --quiet --package against --bin soak -- $(MINUTES) $(SEED)
 
 # Arbitrary bytes to the exported call and the programs, for MINUTES (fuzz/README.md).
@@ -34,6 +38,5 @@ fuzz:
 	fuzz/run $(MINUTES)
 
 # Closing, running, reading and compiling beside plain Rust (docs/BENCHMARKS.md).
-bench:
-	rt staticlib trial_calls
+bench: target/staticlib/libtrial_calls.a
 	cd trial && CARGO_TARGET_DIR=../target/trial cargo run --release --offline --quiet --package against --bin bench

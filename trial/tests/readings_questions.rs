@@ -2,6 +2,7 @@
 
 mod common;
 use common::*;
+use trial::pattern::{AnnSlot, Slot};
 use trial::question::{self, bytes_of, field, Part, Test};
 use trial::question::{BOTH, EITHER, ONLY, TEST, TRIPLE};
 use trial::steps::Step;
@@ -202,8 +203,8 @@ fn tests_of_wrong_length_or_mark() {
 
 /// Number for one TRIPLE, standing second in a BOTH.
 fn slots(kind: u8, subj: (u8, u16), pred: (u8, u16), obj: (u8, u16), ann: (u8, u64)) -> u32 {
-    let slot = |(mark, value)| question::Slot { mark, value };
-    let ann = question::AnnSlot { mark: ann.0, value: ann.1 };
+    let slot = |(mark, value)| Slot { mark, value };
+    let ann = AnnSlot { mark: ann.0, value: ann.1 };
     let part = triple(slot(subj), slot(pred), slot(obj), ann);
     let good = bytes_of(&triple(v(0), v(1), v(2), va(0)));
     let (number, place) = compiled(kind, &holder(BOTH, &[&good, &bytes_of(&part)]));
@@ -252,7 +253,7 @@ fn slots_of_tests() {
         assert_eq!(place, if number == 0 || number > 20 { 0 } else { 24 });
         number
     };
-    let slot = |mark, value| question::Slot { mark, value };
+    let slot = |mark, value| Slot { mark, value };
     assert_eq!(test(1, Test::Equal(v(0), c(16_384))), 0);
     assert_eq!(test(1, Test::Unequal(c(32_768), c(1))), 0);
     assert_eq!(test(1, Test::Equal(slot(2, 0), v(16))), 18);

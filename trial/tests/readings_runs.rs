@@ -3,7 +3,8 @@
 mod common;
 use common::*;
 use trial::meaning::{self, Answer, Asked};
-use trial::question::{AnnSlot, Slot, Test};
+use trial::pattern::{AnnSlot, Slot};
+use trial::question::Test;
 use trial::steps::{self, Step};
 use trial::table::{self, Lanes, Row};
 

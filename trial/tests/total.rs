@@ -2,7 +2,7 @@
 //! numbers that overflow.
 
 mod common;
-use trial::question::{AnnSlot, Slot};
+use trial::pattern::{AnnSlot, Slot};
 use trial::random::{Random, BAD_TERMS};
 use trial::steps::{self, Step};
 use trial::table::{self, Lanes};

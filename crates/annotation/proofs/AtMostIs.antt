@@ -1,11 +1,11 @@
 -- "At most" is "subset" for kinds 1 and 2, and "<=" for kinds 3 and 4. Assumes nothing.
 use mathlib.Core.Logic.{_↔_}
-use mathlib.Core.Path.{_≡_}
-use Prim.Native.Nat.{ℕ, _≤_, max}
+use Prim.Native.Nat.{ℕ, _≤_}
 use native.Mathlib.Omega.{arith}
+use Rattle.ground.specs.Bits.{Subset}
+use Rattle.ground.proofs.Bitwise.{subset-or, or-subset}
 use Rattle.annotation.specs.Algebra.{AtMost}
-use Rattle.annotation.specs.Kinds.{algebra, Subset}
-use Rattle.annotation.proofs.Bitwise.{subset-or, or-subset}
+use Rattle.annotation.specs.Kinds.{algebra}
 
 pub years-at-most : (a b : ℕ) → AtMost (algebra 1) a b ↔ Subset a b
 unfolding algebra

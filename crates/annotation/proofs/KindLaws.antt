@@ -1,13 +1,13 @@
 -- `Laws` for each kind of annotation. Assumes nothing.
-use mathlib.Core.Path.{_≡_, refl, sym, ap, _∙_}
+use mathlib.Core.Path.{_≡_, _∙_}
 use mathlib.Core.Bool.{Bool, true, false, cond}
-use Prim.Native.Nat.{ℕ, _+_, _≤_, _<_, _%_, min, max}
+use Prim.Native.Nat.{ℕ, _≤_}
 use native.Mathlib.Omega.{arith}
 use lib.Dec.{eqb}
-use lib.Bits.{bitAnd, bitOr, and-comm, or-comm, and-zero-r, or-zero-r, or-self, or-lt, and-mask, and-le-l, and-le-r, or-add-and}
-use Rattle.annotation.specs.Algebra.{Algebra, Laws}
+use lib.Bits.{bitAnd, and-comm, or-comm, and-zero-r, or-zero-r, or-self, or-lt, and-mask, and-le-l, and-le-r, or-add-and}
+use Rattle.ground.proofs.Bitwise.{and-assoc, or-assoc, and-over-or}
+use Rattle.annotation.specs.Algebra.{Laws}
 use Rattle.annotation.specs.Kinds.{years, sheets, degree, strict, algebra}
-use Rattle.annotation.proofs.Bitwise.{and-assoc, or-assoc, and-over-or}
 
 and-all : (a : ℕ) → a ≤ 18446744073709551615 → bitAnd a 18446744073709551615 ≡ a
 and-all a h = and-mask a 64 ∙ omega arith

@@ -1,25 +1,21 @@
 -- A legal annotation is a value of its kind other than bottom. Assumes nothing.
 use mathlib.Core.Path.{_≡_, refl}
-use mathlib.Core.Bool.{Bool, true, false, not, cond, _&&_, _||_, false≢true}
+use mathlib.Core.Bool.{Bool, true, false, not, cond, _&&_, _||_, and-eq-true-iff}
 use Prim.Native.Nat.{ℕ, _≤_, _<_}
 use native.Mathlib.Omega.{arith}
 use lib.Dec.{eqb, leb}
 use borrow.Author.Tests.{eqb-false, leb-true, not-true, ne-eqb, le-leb}
 use Rattle.annotation.specs.Kinds.{years, sheets, degree, strict, algebra, isLegal, is64Bit}
 
-both : (u v : Bool) → u && v ≡ true → (u ≡ true) × (v ≡ true)
-both true v h = (refl, h)
-both false v h = absurd (false≢true h)
-
 module _ (a : ℕ) where
   in-set : not (eqb a 0) && is64Bit a ≡ true → (0 < a) × (a ≤ 18446744073709551615)
   in-set h =
-      let b = both (not (eqb a 0)) (is64Bit a) h in
+      let b = and-eq-true-iff (not (eqb a 0)) (is64Bit a) .0 h in
       let n = eqb-false a 0 (not-true (eqb a 0) (b .0)) in
       (omega (arith, n), leb-true a 18446744073709551615 (b .1))
 
   in-scale : leb 1 a && leb a 1000 ≡ true → (0 < a) × (a ≤ 1000)
-  in-scale h = let b = both (leb 1 a) (leb a 1000) h in (leb-true 1 a (b .0), leb-true a 1000 (b .1))
+  in-scale h = let b = and-eq-true-iff (leb 1 a) (leb a 1000) .0 h in (leb-true 1 a (b .0), leb-true a 1000 (b .1))
 
   abbrev isLegalOf : Bool → Bool → Bool
   isLegalOf y s = cond (y || s) (not (eqb a 0) && is64Bit a) (leb 1 a && leb a 1000)

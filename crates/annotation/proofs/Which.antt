@@ -4,7 +4,6 @@ use mathlib.Core.Bool.{Bool, true, false, cond}
 use Prim.Native.Nat.{ℕ, max}
 use lib.Dec.{eqb}
 use borrow.Author.Tests.{eq-eqb, ne-eqb}
-use Rattle.annotation.specs.Algebra.{Algebra}
 use Rattle.annotation.specs.Kinds.{years, sheets, degree, strict, algebra}
 
 module _ (kind : ℕ) where
@@ -32,13 +31,6 @@ scale-join : (d : Bool) (a b : ℕ) → max a b ≡ cond d degree strict .join a
 scale-join true a b = refl
 scale-join false a b = refl
 
-scale-top : (d : Bool) → 1000 ≡ cond d degree strict .top
-scale-top true = refl
-scale-top false = refl
-
 module _ (kind : ℕ) (n1 : kind ≡ 1 → ⊥) (n2 : kind ≡ 2 → ⊥) where
   pub joins-by-max : (a b : ℕ) → max a b ≡ algebra kind .join a b
   joins-by-max a b = rw (is-scale kind n1 n2) (scale-join (eqb kind 3) a b)
-
-  pub top-degree : 1000 ≡ algebra kind .top
-  top-degree = rw (is-scale kind n1 n2) (scale-top (eqb kind 3))

@@ -1,4 +1,4 @@
-// Annotations of kinds 1 to 4: which are legal, And, Join, at most, top.
+// Annotations of kinds 1 to 4: which are legal, And, Join, at most.
 // Refused here: a kind that is none (4), an annotation that its kind does not have (10).
 ghost use mathlib.Core.Path.{_≡_};
 ghost use Prim.Native.Nat.{_+_, _-_, _≤_, min, max};
@@ -16,8 +16,6 @@ pub const DEGREE: u8 = 3;
 pub const STRICT: u8 = 4;
 
 pub const BOTTOM: u64 = 0;
-
-pub const ALL_BITS: u64 = 18446744073709551615;
 
 pub const FULL_DEGREE: u64 = 1000;
 
@@ -127,16 +125,4 @@ pub fn at_most(kind: u8, a: u64, b: u64) -> bool
     ensures { λ r. ⌜ r ≡ eqb (algebra kind .join a b) b ⌝ }
 {
     join(kind, a, b) == b
-}
-
-pub fn top(kind: u8) -> u64
-    ensures { λ r. ⌜ r ≡ algebra kind .top ⌝ }
-{
-    if kind == YEARS {
-        return ALL_BITS;
-    }
-    if kind == SHEETS {
-        return ALL_BITS;
-    }
-    FULL_DEGREE
 }

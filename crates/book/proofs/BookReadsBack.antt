@@ -8,32 +8,34 @@ use lib.ListN.{length, take, drop, length-append}
 use lib.Seq.{take-at}
 use lib.Dec.{ltb}
 use borrow.Author.Tests.{not-false, le-ltb}
+use Rattle.ground.proofs.Tab.{tab-length}
 use Rattle.term.specs.Refusal.{Check, refuse, done, first}
 use Rattle.term.specs.declared.refusal.Verdict.{Verdict}
 use Rattle.term.proofs.Firsts.{first-left, first-clear, first-split, first-done, first-passes, first-none}
-use Rattle.annotation.specs.Kinds.{algebra, kindChecks}
+use Rattle.annotation.specs.Kinds.{algebra, kindChecks, isKind}
+use Rattle.annotation.proofs.Judged.{kind-numbered}
 use Rattle.table.specs.Rows.{Row, Lanes, lanes, rowAt, rowsOf, addAll, filled, zeroed}
 use Rattle.table.specs.Checks.{isUnfit, tableChecks}
 use Rattle.table.specs.Sound.{AllLegal, SoundRows, Sound}
-use Rattle.table.proofs.Tab.{tab-length, laid-rows}
 use Rattle.table.proofs.Soundness.{sound-list}
 use Rattle.table.proofs.Many.{Perm, any-order, add-all-ascending}
+use Rattle.table.proofs.Laid.{laid-rows}
 use Rattle.book.specs.Format.{isBase, baseChecks, headBytes, fieldsBytes, bookBytes}
-use Rattle.book.specs.Reading.{Read, readAs, readBook, lendChecks, reading, Reading}
+use Rattle.book.specs.Reading.{Read, readAs, readBook, longestBook, lendChecks, reading, Reading}
 use Rattle.book.specs.Writing.{bookLength, writeChecks, writeDone, Writing}
 use Rattle.book.proofs.Writes.{length-head, length-fields, write-sound}
 use Rattle.book.proofs.RoundTrip.{book-reads}
 use Rattle.book.proofs.ReadsSound.{no-rows}
 
 -- the fields of a book in any order read to the same
-pub order-is-free : (kind base room : ℕ) → 1 ≤ kind → kind ≤ 4 → isBase kind base ≡ true → base < 65536
+pub order-is-free : (kind base room : ℕ) → isKind kind ≡ true → isBase kind base ≡ true → base < 65536
     → (fs gs : List Row) → Perm fs gs → AllLegal kind fs → AllLegal kind gs → length (addAll (algebra kind) fs []) ≤ room
     → readBook (bookBytes kind base fs) room ≡ readBook (bookBytes kind base gs) room
-order-is-free kind base room from to year small fs gs p legal legal′ fits =
+order-is-free kind base room known year small fs gs p legal legal′ fits =
     let same = any-order kind p [] legal (no-rows kind) in
-    book-reads kind base from to year small fs room legal fits
+    book-reads kind base known year small fs room legal fits
     ∙ ap (readAs kind base) same
-    ∙ sym (book-reads kind base from to year small gs room legal′ (rw (← same) fits))
+    ∙ sym (book-reads kind base known year small gs room legal′ (rw (← same) fits))
 
 -- what reading gives back of a written table
 pub record ReadBack (l : Lanes) (n kind base : ℕ) (m : Lanes) (number place kind′ base′ count : ℕ) : Type 0 where
@@ -60,12 +62,12 @@ module _ (kind base : ℕ) (l : Lanes) (n : ℕ) (out out′ : List ℕ) (place 
   year : isBase kind base ≡ true
   year =
       let k = first-left (kindChecks kind 0) (baseChecks kind base 0 ++ behind) number-zero in
-      let e = ap (λ (v : Verdict). v .number) (sym (first-clear (kindChecks kind 0) (baseChecks kind base 0 ++ behind) (omega arith, tt) k)) ∙ number-zero in
+      let e = ap (λ (v : Verdict). v .number) (sym (first-clear (kindChecks kind 0) (baseChecks kind base 0 ++ behind) (kind-numbered kind 0) k)) ∙ number-zero in
       let q = first-done (baseChecks kind base 0) (omega arith, tt) (first-left (baseChecks kind base 0) behind e) in
       not-false (isBase kind base) (first-split 5 0 (not (isBase kind base)) [] (omega arith) q .0)
 
   rows-sound : SoundRows kind (rowsOf l n)
-  rows-sound = sound-list kind l n sound
+  rows-sound = sound-list sound
 
   -- the bytes written are the book
   pub the-book : take size out′ ≡ bookBytes kind base (rowsOf l n)
@@ -76,7 +78,7 @@ module _ (kind base : ℕ) (l : Lanes) (n : ℕ) (out out′ : List ℕ) (place 
       = length-append (headBytes kind base) (fieldsBytes (rowsOf l n)) ∙ rw (length-head kind base, length-fields n (rowAt l)) refl in
       rw (e, o) (take-at (bookBytes kind base (rowsOf l n)) (drop (bookLength n) out) (bookLength n) long)
 
-  book-short : length (take size out′) ≤ 65535
+  book-short : length (take size out′) ≤ longestBook
   book-short =
       let s = sound in
       rw the-book (omega (arith, length-append (headBytes kind base) (fieldsBytes (rowsOf l n)), length-head kind base, length-fields n (rowAt l), s .within, s .long))
@@ -84,14 +86,14 @@ module _ (kind base : ℕ) (l : Lanes) (n : ℕ) (out out′ : List ℕ) (place 
   module _ (k m : Lanes) (fit : isUnfit k ≡ false) (room : n ≤ length (k .subj)) (number place′ kind′ base′ count : ℕ)
       (read : Reading (take size out′) k m number place′ kind′ base′ count) where
     lent : first (lendChecks (take size out′) k) ≡ done
-    lent = first-passes (isUnfit k) 11 0 _ fit ∙ first-passes _ 13 0 [] (le-ltb 65535 (length (take size out′)) book-short) ∙ first-none
+    lent = first-passes (isUnfit k) 11 0 _ fit ∙ first-passes _ 13 0 [] (le-ltb longestBook (length (take size out′)) book-short) ∙ first-none
 
     reads : reading (take size out′) k ≡ readAs kind base (rowsOf l n)
     reads =
         let all : addAll (algebra kind) (rowsOf l n) [] ≡ rowsOf l n = add-all-ascending (algebra kind) (rowsOf l n) (rows-sound .ascending) in
         rw lent
         (rw the-book
-        (book-reads kind base (sound .kind-from) (sound .kind-to) year small (rowsOf l n) (length (k .subj)) (rows-sound .legal)
+        (book-reads kind base (sound .kind-known) year small (rowsOf l n) (length (k .subj)) (rows-sound .legal)
         (rw (all, tab-length n (rowAt l)) room)
         ∙ ap (readAs kind base) all))
 

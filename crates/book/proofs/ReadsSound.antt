@@ -1,25 +1,33 @@
 -- What a done reading leaves is a sound table of the head's kind and base year; and a refusal's place is within the book. Assumes nothing.
 use mathlib.Core.Path.{_≡_, refl, sym, ap, _∙_}
-use mathlib.Core.Bool.{Bool, true, false, cond, not, _&&_}
+use mathlib.Core.Bool.{Bool, true, false, cond, not}
 use mathlib.Core.List.{List, [], _∷_, _++_}
 use Prim.Native.Nat.{ℕ, zero, suc, _+_, _≤_, _<_}
 use native.Mathlib.Omega.{arith}
 use lib.ListN.{length}
 use lib.Dec.{eqb, leb, ltb}
-use borrow.Author.Tests.{eqb-true, eqb-false, leb-false, ltb-false, not-false, leb-true, eq-eqb}
+use borrow.Author.Tests.{eqb-true, eqb-false, leb-false, ltb-false, not-false, eq-eqb}
 use Rattle.term.specs.Refusal.{Check, refuse, verdict, done, first}
 use Rattle.term.specs.declared.refusal.Verdict.{Verdict}
 use Rattle.term.proofs.Firsts.{Numbered, AllAt, numbered-append, at-append, first-done, first-place, first-split, first-left, first-clear}
-use Rattle.annotation.specs.Kinds.{algebra}
+use Rattle.annotation.specs.Kinds.{algebra, isKind, kindChecks}
+use Rattle.annotation.proofs.Judged.{kind-numbered, kind-at, passes-kind}
 use Rattle.table.specs.Rows.{Row, Lanes, addRow}
 use Rattle.table.specs.Checks.{isUnfit}
 use Rattle.table.specs.Sound.{LegalRow, Ascending, AllLegal, SoundRows}
 use Rattle.table.proofs.Putting.{sound-add}
-use Rattle.table.proofs.Soundness.{both}
-use Rattle.field.specs.Fields.{isCut, tagAt, sizeAt}
-use Rattle.book.specs.Format.{isBase, headEdition, headKind, headBase, headChecks, fieldChecks, rowIn}
-use Rattle.book.specs.Reading.{Read, refused, readAs, goOn, whenDone, whenMore, stepChecks, fieldsFrom, readBook, lendChecks, reading}
+use Rattle.field.specs.Fields.{isCut, tagAt, sizeAt, behind}
+use Rattle.book.specs.Format.{headLength, isBase, headEdition, headKind, headBase, headChecks, fieldChecks, rowIn, baseChecks}
+use Rattle.book.specs.Reading.{Read, refused, readAs, goOn, whenDone, whenMore, stepChecks, fieldsFrom, fieldsOf, readBook, longestBook, lendChecks, reading}
 use Rattle.book.proofs.Contents.{field-numbered, field-at, field-legal}
+
+-- by cases: done, and what follows; or refused
+when-done : (P : Read → Type 0) (v : Verdict) (next : Unit {0} → Read) → (v .number ≡ 0 → P (next tt)) → ((v .number ≡ 0 → ⊥) → P (refused v)) → P (whenDone v next)
+when-done P v next goes stops = go (eqb (v .number) 0) refl
+  where
+    go : (t : Bool) → eqb (v .number) 0 ≡ t → P (goOn t v next)
+    go true e = goes (eqb-true (v .number) 0 e)
+    go false e = stops (eqb-false (v .number) 0 e)
 
 -- a reading of a book of so many bytes into so much room
 pub record Fine (long room kind base : ℕ) (r : Read) : Type 0 where
@@ -67,35 +75,35 @@ module _ (kind base : ℕ) (b : List ℕ) (room : ℕ) where
         ltb-false room _ (first-split 12 at (ltb room (length (addRow (algebra kind) (rowIn b at) R))) [] (omega arith) (first-done last (omega arith, tt) l) .0),
       )
 
+  -- what is read behind a field that passes
+  abbrev left : ℕ → ℕ → List Row → Read
+  left fuel at R = fieldsFrom fuel kind base b room (behind b at) (addRow (algebra kind) (rowIn b at) R)
+
   fields-good : (fuel at : ℕ) (R : List Row) → SoundRows kind R → length R ≤ room → Good (fieldsFrom fuel kind base b room at R)
   unfolding fieldsFrom
   fields-good zero at R s h = read-good R s h
-  fields-good (suc fuel) at R s h = more (leb (length b) at) refl (λ e. fields-good fuel (at + 17) _ (step-sound at R e s .0) (step-sound at R e s .1))
+  fields-good (suc fuel) at R s h = more (leb (length b) at) refl (λ e. fields-good fuel (behind b at) _ (step-sound at R e s .0) (step-sound at R e s .1))
     where
-      stop : at < length b → (t : Bool) → eqb (first (steps at R) .number) 0 ≡ t → (first (steps at R) .number ≡ 0 → Good (fieldsFrom fuel kind base b room (at + 17) (addRow (algebra kind) (rowIn b at) R)))
-          → Good (goOn t (first (steps at R)) (λ _. fieldsFrom fuel kind base b room (at + 17) (addRow (algebra kind) (rowIn b at) R)))
-      stop q true e ih = ih (eqb-true _ 0 e)
-      stop q false e ih =
-          let n = eqb-false (first (steps at R) .number) 0 e in
+      stop : at < length b → (first (steps at R) .number ≡ 0 → ⊥) → Good (refused (first (steps at R)))
+      stop q n =
           let p : first (steps at R) .place ≡ at = ap (λ (v : Verdict). v .place) (first-place at (steps at R) (steps-at at R) (omega (arith, n))) in
           refused-good (first (steps at R)) (omega (arith, p)) n
 
-      more : (t : Bool) → leb (length b) at ≡ t → (first (steps at R) .number ≡ 0 → Good (fieldsFrom fuel kind base b room (at + 17) (addRow (algebra kind) (rowIn b at) R)))
-          → Good (whenMore t (readAs kind base R) (λ _. whenDone (first (steps at R)) (λ _. fieldsFrom fuel kind base b room (at + 17) (addRow (algebra kind) (rowIn b at) R))))
+      more : (t : Bool) → leb (length b) at ≡ t → (first (steps at R) .number ≡ 0 → Good (left fuel at R)) → Good (whenMore t (readAs kind base R) (λ _. whenDone (first (steps at R)) (λ _. left fuel at R)))
       more true e ih = read-good R s h
-      more false e ih = stop (leb-false (length b) at e) (eqb (first (steps at R) .number) 0) refl ih
+      more false e ih = when-done Good (first (steps at R)) (λ _. left fuel at R) ih (stop (leb-false (length b) at e))
 
 -- the head
 pub record LegalHead (kind base : ℕ) : Type 0 where
-  pub kind-from : 1 ≤ kind
-  pub kind-to : kind ≤ 4
+  pub kind-known : isKind kind ≡ true
   pub year : isBase kind base ≡ true
 
 pub head-numbered : (b : List ℕ) → Numbered (headChecks b)
-head-numbered b = (omega arith, (omega arith, (omega arith, (omega arith, (omega arith, (omega arith, (omega arith, tt)))))))
+head-numbered b =
+    (omega arith, (omega arith, (omega arith, (omega arith, (omega arith, numbered-append (kindChecks (headKind b) 0) (baseChecks (headKind b) (headBase b) 0) (kind-numbered (headKind b) 0) (omega arith, tt))))))
 
 pub head-at : (b : List ℕ) → AllAt 0 (headChecks b)
-head-at b = (refl, (refl, (refl, (refl, (refl, (refl, (refl, tt)))))))
+head-at b = (refl, (refl, (refl, (refl, (refl, at-append 0 (kindChecks (headKind b) 0) (baseChecks (headKind b) (headBase b) 0) (kind-at (headKind b) 0) (refl, tt))))))
 
 pub legal-head : (b : List ℕ) → first (headChecks b) .number ≡ 0 → LegalHead (headKind b) (headBase b)
 legal-head b z =
@@ -103,12 +111,11 @@ legal-head b z =
     let e2 = first-split 2 0 (eqb (length b) 0) _ (omega arith) e in
     let e1 = first-split 1 0 (isCut b 0) _ (omega arith) (e2 .1) in
     let t = first-split 2 0 (not (eqb (tagAt b 0) 1)) _ (omega arith) (e1 .1) in
-    let s = first-split 2 0 (not (eqb (sizeAt b 0) 4)) _ (omega arith) (t .1) in
+    let s = first-split 2 0 (not (eqb (sizeAt b 0) headLength)) _ (omega arith) (t .1) in
     let d = first-split 3 0 (not (eqb (headEdition b) 1)) _ (omega arith) (s .1) in
-    let k = first-split 4 0 (not (leb 1 (headKind b) && leb (headKind b) 4)) _ (omega arith) (d .1) in
+    let k = passes-kind (headKind b) 0 _ (d .1) in
     let y = first-split 5 0 (not (isBase (headKind b) (headBase b))) [] (omega arith) (k .1) in
-    let w = both (leb 1 (headKind b)) (leb (headKind b) 4) (not-false _ (k .0)) in
-    record { kind-from = leb-true 1 (headKind b) (w .0); kind-to = leb-true (headKind b) 4 (w .1); year = not-false _ (y .0) }
+    record { kind-known = k .0; year = not-false _ (y .0) }
 
 pub no-rows : (kind : ℕ) → SoundRows kind []
 unfolding Ascending AllLegal
@@ -135,29 +142,25 @@ module _ (b : List ℕ) (room : ℕ) where
 
   book-reads-sound : Reads (length b) room (readBook b room)
   unfolding readBook
-  book-reads-sound = go (eqb (first (headChecks b) .number) 0) refl
-    where
-      go : (t : Bool) → eqb (first (headChecks b) .number) 0 ≡ t → Reads (length b) room (goOn t (first (headChecks b)) (λ _. fieldsFrom (length b) (headKind b) (headBase b) b room 7 []))
-      go true e =
-          fine-reads (headKind b) (headBase b) (fieldsFrom (length b) (headKind b) (headBase b) b room 7 []) (legal-head b (eqb-true _ 0 e))
-          (fields-good (headKind b) (headBase b) b room (length b) 7 [] (no-rows (headKind b)) (omega arith))
-      go false e =
-          let n = eqb-false (first (headChecks b) .number) 0 e in
-          let p : first (headChecks b) .place ≡ 0 = ap (λ (v : Verdict). v .place) (first-place 0 (headChecks b) (head-at b) (omega (arith, n))) in
-          refused-reads (length b) room (first (headChecks b)) (omega (arith, p)) n
+  book-reads-sound =
+      when-done (Reads (length b) room) (first (headChecks b)) (λ _. fieldsOf (headKind b) (headBase b) b room (behind b 0))
+      (λ z.
+      fine-reads (headKind b) (headBase b) (fieldsOf (headKind b) (headBase b) b room (behind b 0)) (legal-head b z)
+      (fields-good (headKind b) (headBase b) b room (length b) (behind b 0) [] (no-rows (headKind b)) (omega arith)))
+      (λ n.
+      let p : first (headChecks b) .place ≡ 0 = ap (λ (v : Verdict). v .place) (first-place 0 (headChecks b) (head-at b) (omega (arith, n))) in
+      refused-reads (length b) room (first (headChecks b)) (omega (arith, p)) n)
 
-pub reading-sound : (b : List ℕ) (l : Lanes) → Reads 65535 (length (l .subj)) (reading b l)
-reading-sound b l = go (eqb (first (lendChecks b l) .number) 0) refl
-  where
-    go : (t : Bool) → eqb (first (lendChecks b l) .number) 0 ≡ t → Reads 65535 (length (l .subj)) (goOn t (first (lendChecks b l)) (λ _. readBook b (length (l .subj))))
-    go true e =
-        let d = first-done (lendChecks b l) (omega arith, (omega arith, tt)) (eqb-true _ 0 e) in
-        let e11 = first-split 11 0 (isUnfit l) _ (omega arith) d in
-        let e13 = first-split 13 0 (ltb 65535 (length b)) [] (omega arith) (e11 .1) in
-        let short : length b ≤ 65535 = ltb-false 65535 (length b) (e13 .0) in
-        let r = book-reads-sound b (length (l .subj)) in
-        record { placed = omega (arith, r .placed); head = r .head; sound = r .sound; fits = r .fits }
-    go false e =
-        let n = eqb-false (first (lendChecks b l) .number) 0 e in
-        let p : first (lendChecks b l) .place ≡ 0 = ap (λ (v : Verdict). v .place) (first-place 0 (lendChecks b l) (refl, (refl, tt)) (omega (arith, n))) in
-        refused-reads 65535 (length (l .subj)) (first (lendChecks b l)) (omega (arith, p)) n
+pub reading-sound : (b : List ℕ) (l : Lanes) → Reads longestBook (length (l .subj)) (reading b l)
+reading-sound b l =
+    when-done (Reads longestBook (length (l .subj))) (first (lendChecks b l)) (λ _. readBook b (length (l .subj)))
+    (λ z.
+    let d = first-done (lendChecks b l) (omega arith, (omega arith, tt)) z in
+    let e11 = first-split 11 0 (isUnfit l) _ (omega arith) d in
+    let e13 = first-split 13 0 (ltb longestBook (length b)) [] (omega arith) (e11 .1) in
+    let short : length b ≤ longestBook = ltb-false longestBook (length b) (e13 .0) in
+    let r = book-reads-sound b (length (l .subj)) in
+    record { placed = omega (arith, r .placed); head = r .head; sound = r .sound; fits = r .fits })
+    (λ n.
+    let p : first (lendChecks b l) .place ≡ 0 = ap (λ (v : Verdict). v .place) (first-place 0 (lendChecks b l) (refl, (refl, tt)) (omega (arith, n))) in
+    refused-reads longestBook (length (l .subj)) (first (lendChecks b l)) (omega (arith, p)) n)

@@ -6,37 +6,36 @@ use Prim.Native.Nat.{ℕ, zero, suc, _+_, _*_, _≤_, _<_}
 use native.Mathlib.Nat.{add-assoc}
 use native.Mathlib.Omega.{arith}
 use lib.ListN.{length, getD, length-append}
-use lib.Seq.{getD-append-add}
+use lib.Seq.{getD-append-seam}
 use lib.Dec.{eqb, leb, ltb}
 use borrow.Author.Tests.{eq-eqb, ne-eqb, le-ltb, lt-leb, le-leb}
 use Rattle.term.specs.Refusal.{Check, refuse, verdict, done, first}
-use Rattle.term.specs.Term.{sortOf, isLegalTerm}
 use Rattle.term.specs.declared.refusal.Verdict.{Verdict}
 use Rattle.term.proofs.Firsts.{first-passes, first-none}
-use Rattle.term.proofs.Sorts.{legal-below, name-below}
-use Rattle.annotation.specs.Kinds.{algebra, isLegal}
+use Rattle.term.proofs.Sorts.{legal-below, name-below, term-passes, predicate-passes}
+use Rattle.annotation.specs.Kinds.{algebra, isKind}
 use Rattle.annotation.proofs.KindLaws.{laws}
 use Rattle.annotation.proofs.Legal.{legal-value}
+use Rattle.annotation.proofs.Judged.{kind-passes, annotation-passes}
 use Rattle.table.specs.Rows.{Row, row, addRow, addAll}
 use Rattle.table.specs.Sound.{LegalRow, AllLegal, SoundRows}
 use Rattle.table.proofs.Many.{no-fewer, all-no-fewer}
 use Rattle.field.specs.Numbers.{twoAt, eightAt, twoBytes, eightBytes}
-use Rattle.field.specs.Fields.{isCut, tagAt, sizeAt}
+use Rattle.field.specs.Fields.{isCut, tagAt, sizeAt, behind}
 use Rattle.field.proofs.Writing.{length-two}
 use Rattle.field.proofs.Back.{two-behind, eight-behind, two-back, eight-back}
-use Rattle.book.specs.Format.{isBase, headChecks, headKind, headBase, rowIn, contentChecks, fieldChecks, headBytes, fieldBytes, fieldsBytes, bookBytes}
+use Rattle.book.specs.Format.{headLength, tripleLength, headSize, tripleSize, isBase, headChecks, headKind, headBase, rowIn, contentChecks, fieldChecks, headBytes, fieldBytes, fieldsBytes, bookBytes}
 use Rattle.book.specs.Reading.{Read, readAs, stepChecks, fieldsFrom, readBook}
+use Rattle.book.proofs.FieldByField.{fields-over}
 use Rattle.book.proofs.Writes.{length-head, length-field}
 
 -- content that is legal passes
 content-passes : (kind : ℕ) (r : Row) (p : ℕ) (cs : List Check) → LegalRow kind r → first (contentChecks kind r p ++ cs) ≡ first cs
 content-passes kind r p cs h =
-    let legal-p : isLegalTerm (r .p) ≡ true = le-leb (sortOf (r .p)) 2 (omega (arith, name-below (r .p) (h .predicate))) in
-    first-passes _ 8 p _ (rw (h .subject) refl)
-    ∙ first-passes _ 8 p _ (rw legal-p refl)
-    ∙ first-passes _ 9 p _ (rw (h .predicate) refl)
-    ∙ first-passes _ 8 p _ (rw (h .object) refl)
-    ∙ first-passes _ 10 p cs (rw (h .annotation) refl)
+    term-passes (r .s) p _ (h .subject)
+    ∙ predicate-passes (r .p) p _ (h .predicate)
+    ∙ term-passes (r .o) p _ (h .object)
+    ∙ annotation-passes kind (r .a) p cs (h .annotation)
 
 -- the bytes of one row, whatever stands before and behind
 module _ (kind : ℕ) (r : Row) (h : LegalRow kind r) (pre rest : List ℕ) where
@@ -53,7 +52,7 @@ module _ (kind : ℕ) (r : Row) (h : LegalRow kind r) (pre rest : List ℕ) wher
   A = eightBytes (r .a)
 
   abbrev tail : List ℕ
-  tail = 3 ∷ 0 ∷ 14 ∷ (S ++ (P ++ (O ++ (A ++ rest))))
+  tail = 3 ∷ 0 ∷ tripleLength ∷ (S ++ (P ++ (O ++ (A ++ rest))))
 
   opened : fieldBytes r ++ rest ≡ tail
   unfolding fieldBytes
@@ -62,12 +61,12 @@ module _ (kind : ℕ) (r : Row) (h : LegalRow kind r) (pre rest : List ℕ) wher
   abbrev b : List ℕ
   b = pre ++ tail
 
-  front-size : twoAt tail 1 ≡ 14
+  front-size : twoAt tail 1 ≡ tripleLength
   unfolding twoAt
   front-size = refl
 
   to-content : (k : ℕ) → twoAt tail (3 + k) ≡ twoAt (S ++ (P ++ (O ++ (A ++ rest)))) k
-  to-content k = two-behind (3 ∷ 0 ∷ 14 ∷ []) (S ++ (P ++ (O ++ (A ++ rest)))) k
+  to-content k = two-behind (3 ∷ 0 ∷ tripleLength ∷ []) (S ++ (P ++ (O ++ (A ++ rest)))) k
 
   subject : twoAt tail 3 ≡ r .s
   subject = to-content 0 ∙ two-back (r .s) _ (omega (arith, legal-below (r .s) (h .subject)))
@@ -85,7 +84,7 @@ module _ (kind : ℕ) (r : Row) (h : LegalRow kind r) (pre rest : List ℕ) wher
   annotation : eightAt tail 9 ≡ r .a
   unfolding twoBytes
   annotation =
-      eight-behind (3 ∷ 0 ∷ 14 ∷ []) (S ++ (P ++ (O ++ (A ++ rest)))) 6 ∙ eight-behind S (P ++ (O ++ (A ++ rest))) 4
+      eight-behind (3 ∷ 0 ∷ tripleLength ∷ []) (S ++ (P ++ (O ++ (A ++ rest)))) 6 ∙ eight-behind S (P ++ (O ++ (A ++ rest))) 4
       ∙ eight-behind P (O ++ (A ++ rest)) 2 ∙ eight-behind O (A ++ rest) 0
       ∙ eight-back (r .a) rest (omega (arith, laws kind .value-bound (r .a) (legal-value (r .a) kind (h .annotation) .1)))
 
@@ -94,23 +93,24 @@ module _ (kind : ℕ) (r : Row) (h : LegalRow kind r) (pre rest : List ℕ) wher
   row-back =
       rw (two-behind pre tail 3, two-behind pre tail 5, two-behind pre tail 7, eight-behind pre tail 9, subject, predicate, object, annotation) refl
 
-  tail-long : length tail ≡ 17 + length rest
+  tail-long : length tail ≡ tripleSize + length rest
   tail-long = ap length (sym opened) ∙ length-append (fieldBytes r) rest ∙ rw (length-field r) refl
 
-  b-long : length b ≡ length pre + (17 + length rest)
+  b-long : length b ≡ length pre + (tripleSize + length rest)
   b-long = length-append pre tail ∙ rw tail-long refl
 
-  size-back : sizeAt b (length pre) ≡ 14
+  size-back : sizeAt b (length pre) ≡ tripleLength
   size-back = two-behind pre tail 1 ∙ front-size
 
   tag-back : tagAt b (length pre) ≡ 3
-  tag-back = ap (λ (i : ℕ). getD b i 0) (at-zero (length pre)) ∙ getD-append-add pre tail 0 0
-    where
-      at-zero : (n : ℕ) → n ≡ n + 0
-      at-zero n = omega arith
+  tag-back = getD-append-seam pre 3 _ 0
+
+  -- the next field stands behind its bytes
+  pub behind-back : behind b (length pre) ≡ length (pre ++ fieldBytes r)
+  behind-back = rw (size-back, length-append pre (fieldBytes r), length-field r) (omega arith)
 
   not-cut : isCut b (length pre) ≡ false
-  not-cut = rw (size-back, le-ltb (length b) (length pre + 3) (omega (arith, b-long)), le-ltb (length b) (length pre + 3 + 14) (omega (arith, b-long))) refl
+  not-cut = rw (size-back, le-ltb (length b) (length pre + 3) (omega (arith, b-long)), le-ltb (length b) (length pre + 3 + tripleLength) (omega (arith, b-long))) refl
 
   pub field-passes : (cs : List Check) → first (fieldChecks kind b (length pre) ++ cs) ≡ first cs
   field-passes cs =
@@ -118,23 +118,18 @@ module _ (kind : ℕ) (r : Row) (h : LegalRow kind r) (pre rest : List ℕ) wher
       first-passes (isCut b at) 1 at _ not-cut
       ∙ first-passes (eqb (tagAt b at) 1) 2 at _ (rw tag-back refl)
       ∙ first-passes (not (eqb (tagAt b at) 3)) 6 at _ (rw tag-back refl)
-      ∙ first-passes (not (eqb (sizeAt b at) 14)) 7 at _ (rw size-back refl)
+      ∙ first-passes (not (eqb (sizeAt b at) tripleLength)) 7 at _ (rw size-back refl)
       ∙ content-passes kind (rowIn b at) at cs (rw row-back h)
 
 -- field after field: the fields left are added to the rows before them
 module _ (kind base room : ℕ) where
-  over : (b : List ℕ) (at fuel : ℕ) (R : List Row) → length b ≤ at → fieldsFrom fuel kind base b room at R ≡ readAs kind base R
-  unfolding fieldsFrom
-  over b at zero R h = refl
-  over b at (suc fuel) R h = rw (le-leb (length b) at h) refl
-
   one-more : (r : Row) (pre rest : List ℕ) (R : List Row) (fuel : ℕ) → LegalRow kind r → length (addRow (algebra kind) r R) ≤ room
       → fieldsFrom (suc fuel) kind base (pre ++ (fieldBytes r ++ rest)) room (length pre) R
-      ≡ fieldsFrom fuel kind base (pre ++ (fieldBytes r ++ rest)) room (length pre + 17) (addRow (algebra kind) r R)
+      ≡ fieldsFrom fuel kind base (pre ++ (fieldBytes r ++ rest)) room (length (pre ++ fieldBytes r)) (addRow (algebra kind) r R)
   unfolding fieldsFrom
   one-more r pre rest R fuel h fits =
       rw (opened kind r h pre rest)
-      (rw (lt-leb (length (pre ++ tail kind r h pre rest)) (length pre) (omega (arith, b-long kind r h pre rest)), passes, row-back kind r h pre rest) refl)
+      (rw (lt-leb (length (pre ++ tail kind r h pre rest)) (length pre) (omega (arith, b-long kind r h pre rest)), passes, behind-back kind r h pre rest, row-back kind r h pre rest) refl)
     where
       fits-in : ltb room (length (addRow (algebra kind) (rowIn (b kind r h pre rest) (length pre)) R)) ≡ false
       fits-in = rw (row-back kind r h pre rest) (le-ltb room (length (addRow (algebra kind) r R)) fits)
@@ -146,13 +141,12 @@ module _ (kind base room : ℕ) where
       → length (addAll (algebra kind) fs R) ≤ room
       → fieldsFrom fuel kind base (pre ++ fieldsBytes fs) room (length pre) R ≡ readAs kind base (addAll (algebra kind) fs R)
   unfolding addAll AllLegal fieldsBytes
-  fields-read [] pre R fuel q legal fits = over (pre ++ []) (length pre) fuel R (rw (append-nil pre) (omega arith))
+  fields-read [] pre R fuel q legal fits = fields-over kind base room (pre ++ []) (length pre) fuel R (rw (append-nil pre) (omega arith))
   fields-read (r ∷ rs) pre R zero q legal fits = absurd (omega arith)
   fields-read (r ∷ rs) pre R (suc fuel) q legal fits =
       let here : length (addRow (algebra kind) r R) ≤ room = omega (arith, all-no-fewer (algebra kind) rs (addRow (algebra kind) r R)) in
-      let next : length (pre ++ fieldBytes r) ≡ length pre + 17 = length-append pre (fieldBytes r) ∙ rw (length-field r) refl in
       one-more r pre (fieldsBytes rs) R fuel (legal .0) here
-      ∙ rw (← append-assoc pre (fieldBytes r) (fieldsBytes rs), ← next)
+      ∙ rw (← append-assoc pre (fieldBytes r) (fieldsBytes rs))
       (fields-read rs (pre ++ fieldBytes r) (addRow (algebra kind) r R) fuel (omega arith) (legal .1) fits)
 
 fields-long : (xs : List Row) → length xs ≤ length (fieldsBytes xs)
@@ -161,29 +155,29 @@ fields-long [] = omega arith
 fields-long (x ∷ xs) = omega (arith, length-append (fieldBytes x) (fieldsBytes xs), length-field x, fields-long xs)
 
 -- the head
-module _ (kind base : ℕ) (from : 1 ≤ kind) (to : kind ≤ 4) (year : isBase kind base ≡ true) (small : base < 65536) (fs : List Row) where
+module _ (kind base : ℕ) (known : isKind kind ≡ true) (year : isBase kind base ≡ true) (small : base < 65536) (fs : List Row) where
   abbrev book : List ℕ
   book = bookBytes kind base fs
 
   abbrev spelt : List ℕ
-  spelt = 1 ∷ 0 ∷ 4 ∷ 1 ∷ kind ∷ (twoBytes base ++ fieldsBytes fs)
+  spelt = 1 ∷ 0 ∷ headLength ∷ 1 ∷ kind ∷ (twoBytes base ++ fieldsBytes fs)
 
   spelled : book ≡ spelt
   unfolding headBytes
   spelled = refl
 
   base-back : headBase spelt ≡ base
-  base-back = two-behind (1 ∷ 0 ∷ 4 ∷ 1 ∷ kind ∷ []) (twoBytes base ++ fieldsBytes fs) 0 ∙ two-back base (fieldsBytes fs) small
+  base-back = two-behind (1 ∷ 0 ∷ headLength ∷ 1 ∷ kind ∷ []) (twoBytes base ++ fieldsBytes fs) 0 ∙ two-back base (fieldsBytes fs) small
 
-  head-size : sizeAt spelt 0 ≡ 4
+  head-size : sizeAt spelt 0 ≡ headLength
   unfolding twoAt
   head-size = refl
 
-  spelt-long : 7 ≤ length spelt
+  spelt-long : headSize ≤ length spelt
   spelt-long = omega (arith, length-append (twoBytes base) (fieldsBytes fs), length-two base)
 
   head-whole : isCut spelt 0 ≡ false
-  head-whole = rw (head-size, le-ltb (length spelt) (0 + 3) (omega (arith, spelt-long)), le-ltb (length spelt) (0 + 3 + 4) (omega (arith, spelt-long))) refl
+  head-whole = rw (head-size, le-ltb (length spelt) (0 + 3) (omega (arith, spelt-long)), le-ltb (length spelt) headSize (omega (arith, spelt-long))) refl
 
   head-passes : first (headChecks spelt) ≡ done
   head-passes =
@@ -192,7 +186,7 @@ module _ (kind base : ℕ) (from : 1 ≤ kind) (to : kind ≤ 4) (year : isBase 
       ∙ first-passes _ 2 0 _ refl
       ∙ first-passes _ 2 0 _ (rw head-size refl)
       ∙ first-passes _ 3 0 _ refl
-      ∙ first-passes _ 4 0 _ (rw (le-leb 1 kind from, le-leb kind 4 to) refl)
+      ∙ kind-passes kind 0 _ known
       ∙ first-passes _ 5 0 [] (rw (base-back, year) refl)
       ∙ first-none
 
@@ -201,7 +195,7 @@ module _ (kind base : ℕ) (from : 1 ≤ kind) (to : kind ≤ 4) (year : isBase 
       → readBook book room ≡ readAs kind base (addAll (algebra kind) fs [])
   unfolding readBook headBytes
   book-reads room legal fits =
-      rw (spelled, head-passes, base-back)
+      rw (spelled, head-passes, base-back, head-size)
       (rw (← spelled, ← length-head kind base) (fields-read kind base room fs (headBytes kind base) [] (length book) enough legal fits))
     where
       enough : length fs ≤ length book

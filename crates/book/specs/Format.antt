@@ -11,6 +11,19 @@ use Rattle.table.specs.Rows.{Row, row}
 use Rattle.field.specs.Numbers.{twoAt, eightAt, twoBytes, eightBytes}
 use Rattle.field.specs.Fields.{tagAt, sizeAt, isCut}
 
+-- "tag 1, length 4"; "tag 3, length 14": the lengths of the values, and the sizes of the fields
+abbrev pub headLength : ℕ
+headLength = 4
+
+abbrev pub tripleLength : ℕ
+tripleLength = 14
+
+abbrev pub headSize : ℕ
+headSize = 3 + headLength
+
+abbrev pub tripleSize : ℕ
+tripleSize = 3 + tripleLength
+
 -- "base year (2 bytes; 1900 to 2100 in kind 1, else 0)"
 abbrev pub isBase : ℕ → ℕ → Bool
 isBase kind base = cond (eqb kind 1) (leb 1900 base && leb base 2100) (eqb base 0)
@@ -39,7 +52,7 @@ headChecks b =
     refuse (eqb (length b) 0) 2 0
     ∷ refuse (isCut b 0) 1 0
     ∷ refuse (not (eqb (tagAt b 0) 1)) 2 0
-    ∷ refuse (not (eqb (sizeAt b 0) 4)) 2 0
+    ∷ refuse (not (eqb (sizeAt b 0) headLength)) 2 0
     ∷ headContentChecks b
 
 -- "Then any number of tag 3, length 14: subject, predicate, object, annotation, high byte first"
@@ -57,15 +70,15 @@ fieldChecks kind b at =
     refuse (isCut b at) 1 at
     ∷ refuse (eqb (tagAt b at) 1) 2 at
     ∷ refuse (not (eqb (tagAt b at) 3)) 6 at
-    ∷ refuse (not (eqb (sizeAt b at) 14)) 7 at
+    ∷ refuse (not (eqb (sizeAt b at) tripleLength)) 7 at
     ∷ contentChecks kind (rowIn b at) at
 
 -- the bytes of a head, of a triple field, of all rows' fields, of a book
 unfoldable pub headBytes : ℕ → ℕ → List ℕ
-headBytes kind base = 1 ∷ 0 ∷ 4 ∷ 1 ∷ kind ∷ twoBytes base
+headBytes kind base = 1 ∷ 0 ∷ headLength ∷ 1 ∷ kind ∷ twoBytes base
 
 unfoldable pub fieldBytes : Row → List ℕ
-fieldBytes r = 3 ∷ 0 ∷ 14 ∷ (twoBytes (r .s) ++ (twoBytes (r .p) ++ (twoBytes (r .o) ++ eightBytes (r .a))))
+fieldBytes r = 3 ∷ 0 ∷ tripleLength ∷ (twoBytes (r .s) ++ (twoBytes (r .p) ++ (twoBytes (r .o) ++ eightBytes (r .a))))
 
 unfoldable pub fieldsBytes : List Row → List ℕ
 fieldsBytes [] = []

@@ -1,8 +1,8 @@
 -- What the parts of reading and writing promise one another.
 use mathlib.Core.Path.{_≡_}
 use mathlib.Core.Bool.{cond}
-use mathlib.Core.List.{List, []}
-use Prim.Native.Nat.{ℕ, _+_, _≤_, _<_}
+use mathlib.Core.List.{List}
+use Prim.Native.Nat.{ℕ, _+_, _*_, _≤_, _<_}
 use lib.ListN.{length}
 use lib.Dec.{eqb}
 use Rattle.term.specs.Refusal.{verdict, first}
@@ -10,77 +10,93 @@ use Rattle.annotation.specs.Kinds.{algebra}
 use Rattle.table.specs.Rows.{Row, Lanes, row, rowAt, rowsOf, addRow, filled}
 use Rattle.table.specs.Sound.{Sound}
 use Rattle.table.specs.Places.{RowsWithin}
-use Rattle.book.specs.Format.{headContentChecks, headChecks, headKind, headBase, contentChecks, fieldChecks, rowIn}
-use Rattle.book.specs.Writing.{bookLength}
-use Rattle.book.specs.Reading.{stepChecks, fieldsFrom, readAs, refused}
+use Rattle.field.specs.Fields.{behind}
+use Rattle.book.specs.declared.content.Head.{Head}
+use Rattle.book.specs.declared.content.Content.{Content}
+use Rattle.book.specs.declared.fields.FieldDone.{FieldDone}
+use Rattle.book.specs.declared.fields.FieldsDone.{FieldsDone}
+use Rattle.book.specs.declared.ReadDone.{ReadDone}
+use Rattle.book.specs.Format.{tripleSize, headContentChecks, headChecks, headKind, headBase, contentChecks, fieldChecks, rowIn}
+use Rattle.book.specs.Reading.{Read, stepChecks, fieldsFrom, fieldsOf, readAs, refused}
 
--- the head's number, and where it is 0 its kind and base year
-pub record HeadOf (b : List ℕ) (number kind base : ℕ) : Type 0 where
-  pub number-is : number ≡ first (headChecks b) .number
-  pub kind-is : number ≡ 0 → kind ≡ headKind b
-  pub base-is : number ≡ 0 → base ≡ headBase b
+-- the head's number, and where it is 0 its kind and base year, and where the fields begin
+pub record HeadOf (b : List ℕ) (h : Head) : Type 0 where
+  pub number-is : h .number ≡ first (headChecks b) .number
+  pub kind-is : h .number ≡ 0 → h .kind ≡ headKind b
+  pub base-is : h .number ≡ 0 → h .base ≡ headBase b
+  pub next-is : h .number ≡ 0 → h .next ≡ behind b 0
 
--- the same of a head that is a whole field of the right tag and length
-pub record HeadContent (b : List ℕ) (number kind base : ℕ) : Type 0 where
-  pub number-is : number ≡ first (headContentChecks b) .number
-  pub kind-is : number ≡ 0 → kind ≡ headKind b
-  pub base-is : number ≡ 0 → base ≡ headBase b
+-- the same of a head that is a whole field of the right tag and length, with `next` behind it
+pub record HeadContent (b : List ℕ) (next : ℕ) (h : Head) : Type 0 where
+  pub number-is : h .number ≡ first (headContentChecks b) .number
+  pub kind-is : h .number ≡ 0 → h .kind ≡ headKind b
+  pub base-is : h .number ≡ 0 → h .base ≡ headBase b
+  pub next-is : h .number ≡ 0 → h .next ≡ next
 
--- the content of a whole triple field
-pub record TripleContent (kind : ℕ) (b : List ℕ) (at number : ℕ) (r : Row) : Type 0 where
-  pub number-is : number ≡ first (contentChecks kind (rowIn b at) 0) .number
-  pub row-is : r ≡ rowIn b at
+abbrev pub rowOf : Content → Row
+rowOf c = row (c .s) (c .p) (c .o) (c .a)
 
--- a field's number, and where it is 0 its row; the field then ends within the book
-pub record ContentOf (kind : ℕ) (b : List ℕ) (at number : ℕ) (r : Row) : Type 0 where
-  pub number-is : number ≡ first (fieldChecks kind b at) .number
-  pub row-is : number ≡ 0 → r ≡ rowIn b at
-  pub whole : number ≡ 0 → at + 17 ≤ length b
+-- the content of a whole triple field, with `next` behind it
+pub record TripleContent (kind : ℕ) (b : List ℕ) (at next : ℕ) (c : Content) : Type 0 where
+  pub number-is : c .number ≡ first (contentChecks kind (rowIn b at) 0) .number
+  pub row-is : rowOf c ≡ rowIn b at
+  pub next-is : c .next ≡ next
+
+-- a field's number, and where it is 0 its row, and where the next field begins
+pub record ContentOf (kind : ℕ) (b : List ℕ) (at : ℕ) (c : Content) : Type 0 where
+  pub number-is : c .number ≡ first (fieldChecks kind b at) .number
+  pub row-is : c .number ≡ 0 → rowOf c ≡ rowIn b at
+  pub next-is : c .number ≡ 0 → c .next ≡ behind b at
 
 pub record FieldInto (kind : ℕ) (b : List ℕ) (at : ℕ) (l : Lanes) (n : ℕ) : Type 0 where
   pub some : at < length b
   pub sound : Sound kind l n
 
 -- the field's row is put into the table, or refused
-pub record FieldPut (kind : ℕ) (b : List ℕ) (at : ℕ) (l : Lanes) (n : ℕ) (m : Lanes) (number n′ : ℕ) : Type 0 where
-  pub number-is : number ≡ first (stepChecks kind b (length (l .subj)) at (rowsOf l n)) .number
+pub record FieldPut (kind : ℕ) (b : List ℕ) (at : ℕ) (l : Lanes) (n : ℕ) (m : Lanes) (d : FieldDone) : Type 0 where
+  pub number-is : d .number ≡ first (stepChecks kind b (length (l .subj)) at (rowsOf l n)) .number
+  pub next-is : d .number ≡ 0 → d .next ≡ behind b at
   pub as-long : length (m .subj) ≡ length (l .subj)
-  pub more : number ≡ 0 → n ≤ n′
-  pub rows-are : number ≡ 0 → rowsOf m n′ ≡ addRow (algebra kind) (rowIn b at) (rowsOf l n)
-  pub rest : number ≡ 0 → (i : ℕ) → n′ ≤ i → rowAt m i ≡ rowAt l i
-  pub whole : number ≡ 0 → at + 17 ≤ length b
-  pub sound : Sound kind m n′
+  pub more : d .number ≡ 0 → n ≤ d .count
+  pub rows-are : d .number ≡ 0 → rowsOf m (d .count) ≡ addRow (algebra kind) (rowIn b at) (rowsOf l n)
+  pub rest : d .number ≡ 0 → (i : ℕ) → d .count ≤ i → rowAt m i ≡ rowAt l i
+  pub sound : Sound kind m (d .count)
 
 -- lanes of zeros, and no row yet
 pub record Fresh (kind : ℕ) (l : Lanes) : Type 0 where
   pub sound : Sound kind l 0
   pub zero : (i : ℕ) → rowAt l i ≡ row 0 0 0 0
 
--- the fields up to `at` are read into count rows, and those from there on are left
-pub record Reached (kind : ℕ) (b : List ℕ) (l m : Lanes) (at count : ℕ) : Type 0 where
+-- the fields from `start` up to `at` are read into count rows, and those from there on are left
+pub record Reached (kind : ℕ) (b : List ℕ) (start : ℕ) (l m : Lanes) (at count : ℕ) : Type 0 where
   pub sound : Sound kind m count
   pub as-long : length (m .subj) ≡ length (l .subj)
   pub zero : (i : ℕ) → count ≤ i → rowAt m i ≡ row 0 0 0 0
   pub fuel : ℕ
   pub enough : length b ≤ at + fuel
-  pub meaning : (base : ℕ) → fieldsFrom (length b) kind base b (length (l .subj)) 7 [] ≡ fieldsFrom fuel kind base b (length (l .subj)) at (rowsOf m count)
+  pub meaning : (base : ℕ) → fieldsOf kind base b (length (l .subj)) start ≡ fieldsFrom fuel kind base b (length (l .subj)) at (rowsOf m count)
 
-pub record FieldsRead (kind : ℕ) (b : List ℕ) (l m : Lanes) (number place count : ℕ) : Type 0 where
-  pub meaning : (base : ℕ) → fieldsFrom (length b) kind base b (length (l .subj)) 7 []
-      ≡ cond (eqb number 0) (readAs kind base (rowsOf m count)) (refused (verdict number place))
-  pub filled-is : number ≡ 0 → m ≡ filled (rowsOf m count) l
-  pub sound : Sound kind m count
+-- all fields from `start` on are read, or one is refused
+pub record FieldsRead (kind : ℕ) (b : List ℕ) (start : ℕ) (l m : Lanes) (d : FieldsDone) : Type 0 where
+  pub meaning : (base : ℕ) → fieldsOf kind base b (length (l .subj)) start
+      ≡ cond (eqb (d .number) 0) (readAs kind base (rowsOf m (d .count))) (refused (verdict (d .number) (d .place)))
+  pub filled-is : d .number ≡ 0 → m ≡ filled (rowsOf m (d .count)) l
+  pub sound : Sound kind m (d .count)
   pub as-long : length (m .subj) ≡ length (l .subj)
 
--- what stands behind a legal head is read, and a refusal leaves all rows zero
-pub record BodyRead (kind base : ℕ) (b : List ℕ) (l m : Lanes) (number place kind′ base′ count : ℕ) : Type 0 where
-  pub verdict-is : verdict number place ≡ fieldsFrom (length b) kind base b (length (l .subj)) 7 [] .verdict-of
-  pub kind-is : kind′ ≡ fieldsFrom (length b) kind base b (length (l .subj)) 7 [] .kind
-  pub base-is : base′ ≡ fieldsFrom (length b) kind base b (length (l .subj)) 7 [] .base
-  pub count-is : count ≡ length (fieldsFrom (length b) kind base b (length (l .subj)) 7 [] .rows)
-  pub lanes-are : m ≡ filled (fieldsFrom (length b) kind base b (length (l .subj)) 7 [] .rows) l
+-- "A refused reading gives kind, base year and count 0"
+abbrev pub refusedDone : ℕ → ℕ → ReadDone
+refusedDone number place = record { number = number; place = place; kind = 0; base = 0; count = 0 }
 
--- the rows are within the lanes, and their book within the bytes
-pub record Writable (l : Lanes) (n : ℕ) (out : List ℕ) : Type 0 where
+-- what is read is said and left in the lanes; a refusal leaves all rows zero
+pub record ReadInto (what : Read) (l m : Lanes) (d : ReadDone) : Type 0 where
+  pub verdict-is : verdict (d .number) (d .place) ≡ what .verdict-of
+  pub kind-is : d .kind ≡ what .kind
+  pub base-is : d .base ≡ what .base
+  pub count-is : d .count ≡ length (what .rows)
+  pub lanes-are : m ≡ filled (what .rows) l
+
+-- the rows are within the lanes, and their fields within the bytes
+pub record Writable (l : Lanes) (n start : ℕ) (out : List ℕ) : Type 0 where
   pub rows : RowsWithin l n
-  pub bytes : bookLength n ≤ length out
+  pub bytes : start + tripleSize * n ≤ length out

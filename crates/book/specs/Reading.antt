@@ -10,6 +10,7 @@ use Rattle.term.specs.declared.refusal.Verdict.{Verdict}
 use Rattle.annotation.specs.Kinds.{algebra}
 use Rattle.table.specs.Rows.{Row, Lanes, addRow, filled}
 use Rattle.table.specs.Checks.{isUnfit}
+use Rattle.field.specs.Fields.{behind}
 use Rattle.book.specs.Format.{headChecks, headKind, headBase, fieldChecks, rowIn}
 
 -- what a book reads to
@@ -43,22 +44,30 @@ abbrev pub stepChecks : ℕ → List ℕ → ℕ → ℕ → List Row → List C
 stepChecks kind b room at rows =
     fieldChecks kind b at ++ (refuse (ltb room (length (addRow (algebra kind) (rowIn b at) rows))) 12 at ∷ [])
 
--- "field by field"; "Order is free and equal triples join". A field is 17 bytes, so there are fewer fields than bytes.
+-- "field by field"; "Order is free and equal triples join". A field has bytes of its own, so there are no more fields than bytes.
 unfoldable pub fieldsFrom : ℕ → ℕ → ℕ → List ℕ → ℕ → ℕ → List Row → Read
 fieldsFrom zero kind base b room at rows = readAs kind base rows
 fieldsFrom (suc fuel) kind base b room at rows =
     whenMore (leb (length b) at) (readAs kind base rows)
     (λ _.
     whenDone (first (stepChecks kind b room at rows))
-    (λ _. fieldsFrom fuel kind base b room (at + 17) (addRow (algebra kind) (rowIn b at) rows)))
+    (λ _. fieldsFrom fuel kind base b room (behind b at) (addRow (algebra kind) (rowIn b at) rows)))
 
--- the head is 7 bytes
+-- all fields, the first at `start`
+abbrev pub fieldsOf : ℕ → ℕ → List ℕ → ℕ → ℕ → Read
+fieldsOf kind base b room start = fieldsFrom (length b) kind base b room start []
+
+-- the fields begin behind the head
 unfoldable pub readBook : List ℕ → ℕ → Read
-readBook b room = whenDone (first (headChecks b)) (λ _. fieldsFrom (length b) (headKind b) (headBase b) b room 7 [])
+readBook b room = whenDone (first (headChecks b)) (λ _. fieldsOf (headKind b) (headBase b) b room (behind b 0))
+
+-- "book over 65,535 bytes"
+abbrev pub longestBook : ℕ
+longestBook = 65535
 
 -- "Reading: 11, 13, then field by field"
 abbrev pub lendChecks : List ℕ → Lanes → List Check
-lendChecks b l = refuse (isUnfit l) 11 0 ∷ refuse (ltb 65535 (length b)) 13 0 ∷ []
+lendChecks b l = refuse (isUnfit l) 11 0 ∷ refuse (ltb longestBook (length b)) 13 0 ∷ []
 
 abbrev pub reading : List ℕ → Lanes → Read
 reading b l = whenDone (first (lendChecks b l)) (λ _. readBook b (length (l .subj)))

@@ -9,11 +9,11 @@ use Rattle.term.specs.Refusal.{Check, refuse, verdict, first}
 use Rattle.annotation.specs.Kinds.{kindChecks}
 use Rattle.table.specs.Rows.{Lanes, rowsOf}
 use Rattle.table.specs.Checks.{tableChecks}
-use Rattle.book.specs.Format.{baseChecks, bookBytes}
+use Rattle.book.specs.Format.{headSize, tripleSize, baseChecks, bookBytes}
 
--- a head of 7 bytes and 17 for each row
+-- a head, and a field for each row
 abbrev pub bookLength : ℕ → ℕ
-bookLength n = 7 + 17 * n
+bookLength n = headSize + tripleSize * n
 
 -- "Writing: 4, 5, table, 12"
 abbrev pub writeChecks : ℕ → ℕ → Lanes → ℕ → ℕ → List Check

@@ -5,12 +5,13 @@ ghost use lib.ListN.{length};
 ghost use Rattle.term.specs.Refusal.{first};
 ghost use Rattle.field.specs.Fields.{fieldAt};
 ghost use Rattle.table.specs.Rows.{row};
-ghost use Rattle.book.specs.Format.{baseChecks, contentChecks};
+ghost use Rattle.book.specs.Format.{headSize, tripleSize, baseChecks, contentChecks};
 ghost use Rattle.book.specs.Inner.{HeadContent, HeadOf, TripleContent, ContentOf};
+use field::FRONT;
 use field::Field;
+use field::eight;
 use field::field_at;
-use field::number::eight;
-use field::number::two;
+use field::two;
 
 pub const CUT: u8 = 1;
 
@@ -28,9 +29,10 @@ pub const HEAD_TAG: u8 = 1;
 
 pub const TRIPLE_TAG: u8 = 3;
 
-pub const HEAD_SIZE: usize = 4;
+// The lengths of the values.
+pub const HEAD_LENGTH: usize = 4;
 
-pub const TRIPLE_SIZE: usize = 14;
+pub const TRIPLE_LENGTH: usize = 14;
 
 pub const EDITION: u8 = 1;
 
@@ -38,14 +40,18 @@ pub const FIRST_YEAR: u16 = 1900;
 
 pub const LAST_YEAR: u16 = 2100;
 
+// The head, and where the fields behind it begin.
 pub struct Head {
     pub number: u8,
     pub kind: u8,
     pub base: u16,
+    pub next: usize,
 }
 
+// A field's row, and where the next field begins.
 pub struct Content {
     pub number: u8,
+    pub next: usize,
     pub s: u16,
     pub p: u16,
     pub o: u16,
@@ -75,13 +81,14 @@ fn no_head(number: u8) -> Head
         number,
         kind: 0,
         base: 0,
+        next: 0,
     }
 }
 
-// Edition, kind, base year of a whole head field.
-fn head_content(book: &[u8]) -> Head
-    requires { ⌜ 7 ≤ length (now book) ⌝ }
-    ensures { λ r. ⌜ HeadContent (now (book .entry)) (r .number) (r .kind) (r .base) ⌝ }
+// Edition, kind, base year of a whole head field, with `next` behind it.
+fn head_content(book: &[u8], next: usize) -> Head
+    requires { ⌜ headSize ≤ length (now book) ⌝ }
+    ensures { λ r. ⌜ HeadContent (now (book .entry)) next r ⌝ }
 {
     if book[3] != EDITION {
         return no_head(WRONG_EDITION);
@@ -96,12 +103,13 @@ fn head_content(book: &[u8]) -> Head
         number: base_refusal(kind, base),
         kind,
         base,
+        next,
     }
 }
 
 // The head at the front of a book.
 pub fn head_of(book: &[u8]) -> Head
-    ensures { λ r. ⌜ HeadOf (now (book .entry)) (r .number) (r .kind) (r .base) ⌝ }
+    ensures { λ r. ⌜ HeadOf (now (book .entry)) r ⌝ }
 {
     let field = field_at(book, 0);
     match field {
@@ -111,10 +119,10 @@ pub fn head_of(book: &[u8]) -> Head
             if tag != HEAD_TAG {
                 return no_head(NO_HEAD);
             }
-            if size != HEAD_SIZE {
+            if size != HEAD_LENGTH {
                 return no_head(NO_HEAD);
             }
-            head_content(book)
+            head_content(book, FRONT + size)
         }
     }
 }
@@ -143,6 +151,7 @@ fn no_content(number: u8) -> Content
 {
     Content {
         number,
+        next: 0,
         s: 0,
         p: 0,
         o: 0,
@@ -150,10 +159,10 @@ fn no_content(number: u8) -> Content
     }
 }
 
-// The content of a whole triple field.
-fn triple_content(kind: u8, book: &[u8], at: usize) -> Content
-    requires { ⌜ at + 17 ≤ length (now book) ⌝ }
-    ensures { λ r. ⌜ TripleContent kind (now (book .entry)) at (r .number) (row (r .s) (r .p) (r .o) (r .a)) ⌝ }
+// The content of a whole triple field, with `next` behind it.
+fn triple_content(kind: u8, book: &[u8], at: usize, next: usize) -> Content
+    requires { ⌜ at + tripleSize ≤ length (now book) ⌝ }
+    ensures { λ r. ⌜ TripleContent kind (now (book .entry)) at next r ⌝ }
 {
     let s = two(book, at + 3);
     let p = two(book, at + 5);
@@ -161,6 +170,7 @@ fn triple_content(kind: u8, book: &[u8], at: usize) -> Content
     let a = eight(book, at + 9);
     Content {
         number: content_refusal(kind, s, p, o, a),
+        next,
         s,
         p,
         o,
@@ -171,7 +181,7 @@ fn triple_content(kind: u8, book: &[u8], at: usize) -> Content
 // The field found at a position after the head.
 pub fn content_at(kind: u8, book: &[u8], at: usize, field: Field) -> Content
     requires { ⌜ (at < length (now book)) × (field ≡ fieldAt (now book) at) ⌝ }
-    ensures { λ r. ⌜ ContentOf kind (now (book .entry)) at (r .number) (row (r .s) (r .p) (r .o) (r .a)) ⌝ }
+    ensures { λ r. ⌜ ContentOf kind (now (book .entry)) at r ⌝ }
 {
     match field {
         Field::End => no_content(CUT),
@@ -183,10 +193,10 @@ pub fn content_at(kind: u8, book: &[u8], at: usize, field: Field) -> Content
             if tag != TRIPLE_TAG {
                 return no_content(WRONG_TAG);
             }
-            if size != TRIPLE_SIZE {
+            if size != TRIPLE_LENGTH {
                 return no_content(WRONG_LENGTH);
             }
-            triple_content(kind, book, at)
+            triple_content(kind, book, at, at + FRONT + size)
         }
     }
 }

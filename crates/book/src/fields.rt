@@ -1,22 +1,20 @@
 // Field after field into the lent lanes.
 ghost use mathlib.Core.Path.{_≡_};
 ghost use Rattle.field.specs.Fields.{fieldAt};
-ghost use Rattle.table.specs.Rows.{row, lanes};
+ghost use Rattle.table.specs.Lent.{before, after, lent};
 ghost use Rattle.book.specs.Inner.{FieldInto, FieldPut, Fresh, FieldsRead};
 use crate::content::content_at;
 use field::Field;
 use field::reader::field;
 use field::reader::moved;
 use field::reader::stand;
-use table::put::put_found;
+use table::put_found;
 use table::room_number;
 
-pub const HEAD_BYTES: usize = 7;
-
-pub const FIELD_BYTES: usize = 17;
-
+// Where the next field begins, and the rows so far.
 pub struct FieldDone {
     pub number: u8,
+    pub next: usize,
     pub count: usize,
 }
 
@@ -38,13 +36,14 @@ fn read_field(
     ann: &mut [u64],
     count: usize,
 ) -> FieldDone
-    requires { ⌜ FieldInto kind (now book) at (lanes (now subj) (now pred) (now obj) (now ann)) count × (field ≡ fieldAt (now book) at) ⌝ }
-    ensures { λ r. ⌜ FieldPut kind (now (book .entry)) at (lanes (now (subj .entry)) (now (pred .entry)) (now (obj .entry)) (now (ann .entry))) count (lanes (now (subj .exit)) (now (pred .exit)) (now (obj .exit)) (now (ann .exit))) (r .number) (r .count) ⌝ }
+    requires { ⌜ FieldInto kind (now book) at (lent subj pred obj ann) count × (field ≡ fieldAt (now book) at) ⌝ }
+    ensures { λ r. ⌜ FieldPut kind (now (book .entry)) at (before subj pred obj ann) count (after subj pred obj ann) r ⌝ }
 {
     let content = content_at(kind, book, at, field);
     if content.number > 0 {
         return FieldDone {
             number: content.number,
+            next: at,
             count,
         };
     }
@@ -63,23 +62,25 @@ fn read_field(
     );
     FieldDone {
         number: room_number(done.full),
+        next: content.next,
         count: done.count,
     }
 }
 
-// Every field after the head, in order, until one is refused. One reader is held, and goes from field to field.
+// Every field from `start` on, in order, until one is refused. One reader is held, and goes from field to field.
 pub fn read_fields(
     kind: u8,
     book: &[u8],
+    start: usize,
     subj: &mut [u16],
     pred: &mut [u16],
     obj: &mut [u16],
     ann: &mut [u64],
 ) -> FieldsDone
-    requires { ⌜ Fresh kind (lanes (now subj) (now pred) (now obj) (now ann)) ⌝ }
-    ensures { λ r. ⌜ FieldsRead kind (now (book .entry)) (lanes (now (subj .entry)) (now (pred .entry)) (now (obj .entry)) (now (ann .entry))) (lanes (now (subj .exit)) (now (pred .exit)) (now (obj .exit)) (now (ann .exit))) (r .number) (r .place) (r .count) ⌝ }
+    requires { ⌜ Fresh kind (lent subj pred obj ann) ⌝ }
+    ensures { λ r. ⌜ FieldsRead kind (now (book .entry)) start (before subj pred obj ann) (after subj pred obj ann) r ⌝ }
 {
-    let mut reader = stand(book, HEAD_BYTES);
+    let mut reader = stand(book, start);
     let mut count = 0;
     while reader.at < reader.src.len() {
         let found = field(reader);
@@ -102,7 +103,7 @@ pub fn read_fields(
             };
         }
         count = done.count;
-        reader = moved(reader, reader.at + FIELD_BYTES);
+        reader = moved(reader, done.next);
     }
     FieldsDone {
         number: 0,

@@ -1,19 +1,23 @@
 // Fitting books: read into a table, and written from one.
 // Refused here: a cut field (1), the head (2 to 5), other fields (6, 7), their content (8, 9, 10), lanes (11), room (12), length (13).
 ghost use mathlib.Core.Path.{_≡_};
-ghost use Rattle.table.specs.Rows.{lanes};
-ghost use Rattle.book.specs.Reading.{Reading};
+ghost use lib.ListN.{length};
+ghost use Rattle.table.specs.Lent.{before, after, lent};
+ghost use Rattle.book.specs.Reading.{fieldsOf, Reading};
 ghost use Rattle.book.specs.Writing.{Writing};
-ghost use Rattle.book.specs.Inner.{Fresh, BodyRead};
+ghost use Rattle.book.specs.Inner.{Fresh, refusedDone, ReadInto};
 
-pub mod content;
-pub mod fields;
-pub mod writing;
+mod content;
+mod fields;
+mod writing;
 
+pub use content::CUT;
 use content::head_of;
 use fields::read_fields;
-use table::judge::unfit;
-use table::put::wipe;
+use table::unfit;
+use table::wipe;
+use writing::HEAD_BYTES;
+use writing::book_length;
 use writing::write_fields;
 use writing::write_head;
 use writing::write_verdict;
@@ -32,7 +36,7 @@ pub struct ReadDone {
 
 // A refused reading gives kind, base year and count 0.
 fn refused(number: u8, place: usize) -> ReadDone
-    ensures { λ r. ⌜ (r .number ≡ number) × (r .place ≡ place) × (r .kind ≡ 0) × (r .base ≡ 0) × (r .count ≡ 0) ⌝ }
+    ensures { λ r. ⌜ r ≡ refusedDone number place ⌝ }
 {
     ReadDone {
         number,
@@ -43,20 +47,21 @@ fn refused(number: u8, place: usize) -> ReadDone
     }
 }
 
-// The fields behind a legal head.
+// The fields behind a legal head, from `start` on.
 fn read_body(
     book: &[u8],
     kind: u8,
     base: u16,
+    start: usize,
     subj: &mut [u16],
     pred: &mut [u16],
     obj: &mut [u16],
     ann: &mut [u64],
 ) -> ReadDone
-    requires { ⌜ Fresh kind (lanes (now subj) (now pred) (now obj) (now ann)) ⌝ }
-    ensures { λ r. ⌜ BodyRead kind base (now (book .entry)) (lanes (now (subj .entry)) (now (pred .entry)) (now (obj .entry)) (now (ann .entry))) (lanes (now (subj .exit)) (now (pred .exit)) (now (obj .exit)) (now (ann .exit))) (r .number) (r .place) (r .kind) (r .base) (r .count) ⌝ }
+    requires { ⌜ Fresh kind (lent subj pred obj ann) ⌝ }
+    ensures { λ r. ⌜ ReadInto (fieldsOf kind base (now (book .entry)) (length (now (subj .entry))) start) (before subj pred obj ann) (after subj pred obj ann) r ⌝ }
 {
-    let fields = read_fields(kind, book, subj, pred, obj, ann);
+    let fields = read_fields(kind, book, start, subj, pred, obj, ann);
     if fields.number > 0 {
         wipe(subj, pred, obj, ann);
         return refused(fields.number, fields.place);
@@ -78,7 +83,7 @@ pub fn read(
     obj: &mut [u16],
     ann: &mut [u64],
 ) -> ReadDone
-    ensures { λ r. ⌜ Reading (now (book .entry)) (lanes (now (subj .entry)) (now (pred .entry)) (now (obj .entry)) (now (ann .entry))) (lanes (now (subj .exit)) (now (pred .exit)) (now (obj .exit)) (now (ann .exit))) (r .number) (r .place) (r .kind) (r .base) (r .count) ⌝ }
+    ensures { λ r. ⌜ Reading (now (book .entry)) (before subj pred obj ann) (after subj pred obj ann) (r .number) (r .place) (r .kind) (r .base) (r .count) ⌝ }
 {
     if unfit(subj, pred, obj, ann) {
         return refused(table::LANES_UNFIT, 0);
@@ -91,7 +96,7 @@ pub fn read(
     if head.number > 0 {
         return refused(head.number, 0);
     }
-    read_body(book, head.kind, head.base, subj, pred, obj, ann)
+    read_body(book, head.kind, head.base, head.next, subj, pred, obj, ann)
 }
 
 pub struct WriteDone {
@@ -111,7 +116,7 @@ pub fn write(
     count: usize,
     out: &mut [u8],
 ) -> WriteDone
-    ensures { λ r. ⌜ Writing kind base (lanes (now (subj .entry)) (now (pred .entry)) (now (obj .entry)) (now (ann .entry))) count (now (out .entry)) (now (out .exit)) (r .number) (r .place) (r .length) ⌝ }
+    ensures { λ r. ⌜ Writing kind base (before subj pred obj ann) count (now (out .entry)) (now (out .exit)) (r .number) (r .place) (r .length) ⌝ }
 {
     let verdict = write_verdict(kind, base, subj, pred, obj, ann, count, out.len());
     if verdict.number > 0 {
@@ -122,10 +127,10 @@ pub fn write(
         };
     }
     write_head(out, kind, base);
-    write_fields(out, subj, pred, obj, ann, count);
+    write_fields(out, HEAD_BYTES, subj, pred, obj, ann, count);
     WriteDone {
         number: 0,
         place: 0,
-        length: 7 + 17 * count,
+        length: book_length(count),
     }
 }

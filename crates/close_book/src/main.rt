@@ -14,12 +14,12 @@ fn main() {
 }
 
 fn close_listed(book: &[u8], subj: &mut [u16], pred: &mut [u16], obj: &mut [u16], ann: &mut [u64]) {
-    let head = book::read(book, subj, pred, obj, ann);
+    let head = trackvesper::read(book, subj, pred, obj, ann);
     if head.number > 0 {
         listed_refusal(head.number, head.place);
         return;
     }
-    let closed = closing::close(head.kind, subj, pred, obj, ann, head.count);
+    let closed = trackvesper::close(head.kind, subj, pred, obj, ann, head.count);
     if closed.number > 0 {
         listed_refusal(closed.number, closed.place);
         return;

@@ -6,16 +6,17 @@ use Prim.Native.Nat.{ℕ, _≤_, _<_}
 use native.Mathlib.Decide.{decLt}
 use native.Mathlib.Omega.{arith}
 use lib.ListN.{length}
+use Rattle.ground.proofs.Tab.{tab-length}
 use Rattle.term.specs.Refusal.{first}
 use Rattle.term.specs.declared.refusal.Verdict.{Verdict}
 use Rattle.term.proofs.Firsts.{first-done}
 use Rattle.annotation.specs.Kinds.{algebra}
-use Rattle.table.specs.Rows.{Row, Lanes, rowAt, rowsOf, laid, filled}
+use Rattle.table.specs.Rows.{Row, Lanes, rowAt, rowsOf, laid, filled, AsLong}
 use Rattle.table.specs.Checks.{tableChecks}
 use Rattle.table.specs.Sound.{Sound}
 use Rattle.table.proofs.Judging.{table-numbered}
-use Rattle.table.proofs.Soundness.{passes-sound, sound-list, list-sound}
-use Rattle.table.proofs.Tab.{tab-length, filled-rows, filled-lane, zeroed-alike}
+use Rattle.table.proofs.Soundness.{passes-sound, sound-list, list-sound, sound-within, sound-as-long}
+use Rattle.table.proofs.Laid.{filled-rows, zeroed-alike, filled-as-long}
 use Rattle.rhodf.specs.Graph.{Graph, graphOf, Valued, Below}
 use Rattle.rhodf.specs.Rules.{Rule}
 use Rattle.rhodf.specs.Closure.{Closed, ClosureOf}
@@ -49,20 +50,12 @@ module _ (kind : ℕ) (l : Lanes) (n : ℕ) (w : Sound kind l n) (closed : List 
   rows-after : rowsOf m count ≡ closed
   rows-after = rows-filled l m closed count em ec
 
-  same-length : (lane : Lanes → List ℕ) {k : ℕ} → length (lane (filled closed l)) ≡ k → length (lane m) ≡ k
-  same-length lane e = ap (λ (x : Lanes). length (lane x)) em ∙ e
-
   closes-by : Closes kind l n m count
   closes-by =
-      let s = same-length (λ (x : Lanes). x .subj) (filled-lane (λ (x : Row). x .s) closed (length (l .subj)) room) in
+      let long : AsLong l m = rw em (filled-as-long closed l (sound-within w room)) in
       record {
-        sound = list-sound kind l m n count w s
-            (same-length (λ (x : Lanes). x .pred) (filled-lane (λ (x : Row). x .p) closed (length (l .pred)) (omega (arith, w .pred-long))))
-            (same-length (λ (x : Lanes). x .obj) (filled-lane (λ (x : Row). x .o) closed (length (l .obj)) (omega (arith, w .obj-long))))
-            (same-length (λ (x : Lanes). x .ann) (filled-lane (λ (x : Row). x .a) closed (length (l .ann)) (omega (arith, w .ann-long))))
-            (omega (arith, s))
-            (rw rows-after (c .sound));
-        as-long = s;
+        sound = list-sound w m count long (omega (arith, ec, room, long .same-subj)) (rw rows-after (c .sound));
+        as-long = long .same-subj;
         holds = rw rows-after (c .is-least .holds);
         is-closed = rw rows-after (c .is-least .is-closed);
         least = rw rows-after (c .is-least .least);
@@ -81,7 +74,7 @@ module _ (kind : ℕ) (l : Lanes) (n : ℕ) (m : Lanes) (place count : ℕ) (a :
   -- and its closure has room
   pub close-closes : Closes kind l n m count
   close-closes =
-      let c = closure-exists kind (rowsOf l n) (sound-list kind l n was-sound) in
+      let c = closure-exists kind (rowsOf l n) (sound-list was-sound) in
       go (c .0) (c .1) (decLt (length (l .subj)) (length (c .0)))
     where
       go : (closed : List Row) → ClosureOf kind Rule (rowsOf l n) closed → Dec (length (l .subj) < length closed) → Closes kind l n m count
@@ -97,7 +90,7 @@ pub closed-table-stays : (kind : ℕ) (l : Lanes) (n : ℕ) (m : Lanes) (number 
 closed-table-stays kind l n m number place count s c a =
     let same : length (rowsOf l n) ≡ n = tab-length n (rowAt l) in
     let room : length (rowsOf l n) ≤ length (l .subj) = omega (arith, s .within) in
-    let f = a .fits s (rowsOf l n) (closed-is-closure kind Rule (rowsOf l n) (sound-list kind l n s) c) room in
+    let f = a .fits s (rowsOf l n) (closed-is-closure kind Rule (rowsOf l n) (sound-list s) c) room in
     record {
       done-again = ap (λ (v : Verdict). v .number) (f .0);
       same-count = f .2 ∙ same;
@@ -117,6 +110,5 @@ close-twice-is-once kind l n m m′ place count number′ place′ count′ a b 
     let c = close-closes kind l n m place count a in
     let w = was-sound kind l n m place count a in
     let s = closed-table-stays kind m count m′ number′ place′ count′ (c .sound) (c .is-closed) b in
-    let e : length (m .subj) ≡ length (l .subj) = c .as-long in
-    let z = zeroed-alike l m e (c .sound .pred-long ∙ e ∙ sym (w .pred-long)) (c .sound .obj-long ∙ e ∙ sym (w .obj-long)) (c .sound .ann-long ∙ e ∙ sym (w .ann-long)) in
+    let z = zeroed-alike (sound-as-long w (c .sound) (c .as-long)) in
     record { done-again = s .done-again; same-count = s .same-count; same-lanes = s .lanes-are ∙ ap (laid (rowsOf m count)) z ∙ sym (c .lanes-are) }

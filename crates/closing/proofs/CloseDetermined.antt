@@ -51,5 +51,5 @@ close-determined kind l n m m′ number place count number′ place′ count′ 
     go (yes h) = alike m m′ number place count number′ place′ count′ _ _ _ (a .refused h) (b .refused h)
     go (no h) =
         let s = passes-sound kind l n (first-done (tableChecks kind l n) (table-numbered kind l n) (omega arith)) in
-        let c = closure-exists kind (rowsOf l n) (sound-list kind l n s) in
+        let c = closure-exists kind (rowsOf l n) (sound-list s) in
         by-room s (c .0) (c .1) (decLt (length (l .subj)) (length (c .0)))

@@ -1,9 +1,4 @@
--- Laws that belong to no one function, bottom to top.
-pub mod Obeying
-pub mod Stepping
-pub mod Neighbours
-pub mod Walking
-pub mod Rounding
+-- The rows past the count, and what saturating comes to.
 pub mod Wiping
 pub mod Whole
 -- What is shown of the public call.

@@ -5,6 +5,7 @@ use mathlib.Core.List.{List}
 use Prim.Native.Nat.{ℕ, _≤_, _<_}
 use native.Mathlib.Omega.{arith}
 use lib.ListN.{length}
+use Rattle.ground.proofs.Tab.{tab-length}
 use Rattle.term.specs.Refusal.{first}
 use Rattle.term.specs.declared.refusal.Verdict.{Verdict}
 use Rattle.term.proofs.Firsts.{first-done}
@@ -13,22 +14,22 @@ use Rattle.table.specs.Checks.{tableChecks}
 use Rattle.table.specs.Sound.{Sound}
 use Rattle.table.specs.Places.{RowsWithin}
 use Rattle.table.proofs.Judging.{table-numbered}
-use Rattle.table.proofs.Soundness.{passes-sound, sound-passes, sound-list, sound-rows-within}
-use Rattle.table.proofs.Tab.{tab-length, zeroed-alike}
+use Rattle.table.proofs.Soundness.{passes-sound, sound-passes, sound-list, sound-within}
+use Rattle.table.proofs.Laid.{zeroed-alike}
 use Rattle.rhodf.specs.Graph.{graphOf}
 use Rattle.rhodf.specs.Rules.{Rule}
 use Rattle.rhodf.specs.Closure.{ClosureOf}
 use Rattle.rhodf.proofs.Growing.{rows-valued}
 use Rattle.rhodf.proofs.TablesAgree.{closures-equal}
 use Rattle.rhodf.proofs.NoMoreRows.{below-no-more-rows}
-use Rattle.closing.specs.Steps.{Saturated}
+use Rattle.rounds.specs.Rounds.{Saturated}
 use Rattle.closing.specs.Closing.{Closing}
 
 -- a sound table passes the check
 not-refused : (kind : ℕ) (l : Lanes) (n : ℕ) → Sound kind l n → 0 < first (tableChecks kind l n) .number → ⊥
 not-refused kind l n s h = omega (arith, ap (λ (v : Verdict). v .number) (sound-passes kind l n s))
 
-module _ (kind : ℕ) (l : Lanes) (n : ℕ) (v : Verdict) (e : v ≡ first (tableChecks kind l n)) where
+module _ {kind : ℕ} {l : Lanes} {n : ℕ} {v : Verdict} (e : v ≡ first (tableChecks kind l n)) where
   pub closing-refused : 0 < v .number → Closing kind l n l (v .number) (v .place) n
   closing-refused h = record {
     refused = λ q. (e, refl, refl);
@@ -40,49 +41,45 @@ module _ (kind : ℕ) (l : Lanes) (n : ℕ) (v : Verdict) (e : v ≡ first (tabl
   closing-sound z =
       passes-sound kind l n (first-done (tableChecks kind l n) (table-numbered kind l n) (ap (λ (w : Verdict). w .number) (sym e) ∙ omega arith))
 
-module _ (kind : ℕ) (l : Lanes) (n : ℕ) (sound : Sound kind l n) (m : Lanes) (full : Bool) (n′ : ℕ) (s : Saturated kind l n m full n′) where
+module _ {kind : ℕ} {l : Lanes} {n : ℕ} (sound : Sound kind l n) {m : Lanes} {full : Bool} {n′ : ℕ} (s : Saturated Rule kind l n m full n′) where
   -- where no row lacked room, the rows are the closure
   the-closure : full ≡ false → ClosureOf kind Rule (rowsOf l n) (rowsOf m n′)
   the-closure f = record {
-    sound = sound-list kind m n′ (s .sound);
+    sound = sound-list (s .risen .sound);
     is-least = record {
-      valued = rows-valued kind (rowsOf m n′) (sound-list kind m n′ (s .sound));
+      valued = rows-valued kind (rowsOf m n′) (sound-list (s .risen .sound));
       is-closed = s .closed f;
-      holds = s .up;
-      least = λ H w c b. s .entailed H (w, c, b);
+      holds = s .risen .up;
+      least = λ H w c b. s .risen .entailed H (w, c, b);
     };
   }
 
   -- where one did, the closure has more rows than the lanes
   no-closure-fits : full ≡ true → (closed : List Row) → ClosureOf kind Rule (rowsOf l n) closed → length (l .subj) < length closed
   no-closure-fits t closed c =
-      let w = s .over t in
+      let w = s .risen .over t in
       let b = w .entailed (graphOf closed) (c .is-least .valued, c .is-least .is-closed, c .is-least .holds) in
-      omega (arith, w .long, below-no-more-rows kind (w .rows) closed (w .sound) (c .sound) b)
+      omega (arith, w .long, below-no-more-rows kind (w .others) closed (w .sound) (c .sound) b)
 
   same-zeroed : zeroed m ≡ zeroed l
-  same-zeroed =
-      zeroed-alike l m (s .as-long) (s .sound .pred-long ∙ s .as-long ∙ sym (sound .pred-long))
-      (s .sound .obj-long ∙ s .as-long ∙ sym (sound .obj-long)) (s .sound .ann-long ∙ s .as-long ∙ sym (sound .ann-long))
+  same-zeroed = zeroed-alike (s .risen .as-long)
 
   pub past-within : {k : ℕ} → k ≤ n′ → RowsWithin m k
-  past-within h =
-      let r = sound-rows-within kind m n′ (s .sound) in
-      record { in-subj = omega (arith, r .in-subj); in-pred = omega (arith, r .in-pred); in-obj = omega (arith, r .in-obj); in-ann = omega (arith, r .in-ann) }
+  past-within h = sound-within (s .risen .sound) (omega (arith, s .risen .sound .within))
 
-  pub closing-done : full ≡ false → (m′ : Lanes) → m′ ≡ filled (rowsOf m n′) m → Closing kind l n m′ 0 0 n′
-  closing-done f m′ e = record {
+  pub closing-done : full ≡ false → {m′ : Lanes} → m′ ≡ filled (rowsOf m n′) m → Closing kind l n m′ 0 0 n′
+  closing-done f e = record {
     refused = λ q. absurd (not-refused kind l n sound q);
     fits = λ _ closed c h.
         let same : rowsOf m n′ ≡ closed = closures-equal kind Rule (rowsOf l n) (rowsOf m n′) closed (the-closure f) c in
         (refl, e ∙ ap (laid (rowsOf m n′)) same-zeroed ∙ ap (λ (R : List Row). filled R l) same, sym (tab-length n′ (rowAt m)) ∙ ap length same);
     no-room = λ _ closed c h.
         let same : rowsOf m n′ ≡ closed = closures-equal kind Rule (rowsOf l n) (rowsOf m n′) closed (the-closure f) c in
-        absurd (omega (arith, s .sound .within, s .as-long, tab-length n′ (rowAt m), ap length same));
+        absurd (omega (arith, s .risen .sound .within, s .risen .as-long .same-subj, tab-length n′ (rowAt m), ap length same));
   }
 
-  pub closing-no-room : full ≡ true → (m′ : Lanes) → m′ ≡ zeroed m → Closing kind l n m′ 12 0 0
-  closing-no-room t m′ e = record {
+  pub closing-no-room : full ≡ true → {m′ : Lanes} → m′ ≡ zeroed m → Closing kind l n m′ 12 0 0
+  closing-no-room t e = record {
     refused = λ q. absurd (not-refused kind l n sound q);
     fits = λ _ closed c h. absurd (omega (arith, no-closure-fits t closed c));
     no-room = λ _ closed c h. (refl, e ∙ same-zeroed, refl);

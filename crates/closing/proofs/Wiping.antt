@@ -6,9 +6,10 @@ use native.Mathlib.Omega.{arith}
 use lib.ListN.{length, getD, take, drop, replicate, length-append, length-take, length-drop, length-replicate, drop-of-length-le, List·getD-append}
 use lib.Seq.{length-take-le, getD-append-add, getD-take}
 use borrow.Rule.Slice.PartMut.{midOf, putMid}
+use Rattle.ground.proofs.Tab.{tab-ext}
 use Rattle.table.specs.Rows.{Row, lanes, rowAt, rowsOf, filled}
 use Rattle.table.specs.Places.{RowsWithin}
-use Rattle.table.proofs.Tab.{tab-ext, zero-row, filled-is}
+use Rattle.table.proofs.Laid.{zero-row, filled-is}
 
 -- one lane
 abbrev wiped : ℕ → List ℕ → List ℕ → List ℕ
@@ -42,8 +43,13 @@ past-wiped S P O A n w s p o a zs zp zo za =
     let l = lanes S P O A in
     let m = lanes (wiped n S s) (wiped n P p) (wiped n O o) (wiped n A a) in
     filled-is l m n
-    (wiped-long n S s (w .in-subj) zs) (wiped-long n P p (w .in-pred) zp) (wiped-long n O o (w .in-obj) zo) (wiped-long n A a (w .in-ann) za)
-    (w .in-subj) (w .in-pred) (w .in-obj) (w .in-ann)
+    (record {
+      same-subj = wiped-long n S s (w .in-subj) zs;
+      same-pred = wiped-long n P p (w .in-pred) zp;
+      same-obj = wiped-long n O o (w .in-obj) zo;
+      same-ann = wiped-long n A a (w .in-ann) za;
+    })
+    w
     (λ i q. rw (wiped-rest n S s (w .in-subj) zs i q, wiped-rest n P p (w .in-pred) zp i q, wiped-rest n O o (w .in-obj) zo i q, wiped-rest n A a (w .in-ann) za i q) refl)
     ∙ ap (λ (R : List Row). filled R l) (tab-ext n (rowAt m) (rowAt l)
     (λ i q. rw (wiped-front n S s (w .in-subj) zs i q, wiped-front n P p (w .in-pred) zp i q, wiped-front n O o (w .in-obj) zo i q, wiped-front n A a (w .in-ann) za i q) refl))

@@ -1,4 +1,2 @@
--- The definitions that the contracts of `closing`, and of every crate above it, cite.
-pub mod Plans
-pub mod Steps
+-- What a done closing leaves, and what is refused: the definition that the contract of `close`, and every crate above, cites.
 pub mod Closing

@@ -1,16 +1,13 @@
 // Closing a table under the rules of rho-df: rounds over all rows until one changes nothing.
 // Refused here: what the table check refuses, and a closure that has more rows than the lanes (12).
-ghost use Rattle.table.specs.Rows.{lanes};
+ghost use Rattle.table.specs.Lent.{before, after};
 ghost use Rattle.closing.specs.Closing.{Closing};
 
-pub mod plans;
-pub mod rest;
-pub mod rounds;
-pub mod walks;
+mod rest;
 
 use rest::wipe_past;
 use rounds::saturate;
-use table::put::wipe;
+use table::wipe;
 
 pub struct CloseDone {
     pub number: u8,
@@ -27,7 +24,7 @@ pub fn close(
     ann: &mut [u64],
     count: usize,
 ) -> CloseDone
-    ensures { λ r. ⌜ Closing kind (lanes (now (subj .entry)) (now (pred .entry)) (now (obj .entry)) (now (ann .entry))) count (lanes (now (subj .exit)) (now (pred .exit)) (now (obj .exit)) (now (ann .exit))) (r .number) (r .place) (r .count) ⌝ }
+    ensures { λ r. ⌜ Closing kind (before subj pred obj ann) count (after subj pred obj ann) (r .number) (r .place) (r .count) ⌝ }
 {
     let table = table::check(kind, subj, pred, obj, ann, count);
     if table.number > 0 {

@@ -1,10 +1,9 @@
 // The counter's program: a book, then questions to the end of the input, each behind a length of two bytes.
 // For each question `asked NUMBER PLACE COUNT LOOKS` and a line for each answer; `refused NUMBER PLACE` ends it.
 ghost use Rattle.io.specs.Counts.{Counts};
-use field::number::two;
 use libc::STDIN_FILENO;
-
-pub const CUT: u8 = 1;
+use trackvesper::CUT;
+use trackvesper::two;
 
 pub const ALL_LOOKS: u32 = 4294967295;
 
@@ -21,7 +20,7 @@ fn main() {
         refused(CUT, 0);
         return;
     }
-    let head = book::read(
+    let head = trackvesper::read(
         &bytes[..book.length],
         &mut subj,
         &mut pred,
@@ -133,7 +132,7 @@ fn ask_next(
             rows: count,
         };
     }
-    let closed = closing::close(kind, subj, pred, obj, ann, count);
+    let closed = trackvesper::close(kind, subj, pred, obj, ann, count);
     if closed.number > 0 {
         refused(closed.number, closed.place);
         return Turn {
@@ -169,13 +168,13 @@ fn ask(
     terms: &mut [u16],
     anns: &mut [u64],
 ) {
-    let made = steplist::compile_array(kind, question);
+    let made = trackvesper::compile_array(kind, question);
     if made.number > 0 {
         asked(made.number, made.place, 0, 0);
         return;
     }
     let records = made.records;
-    let ran = steplist::run_array(
+    let ran = trackvesper::run_array(
         kind,
         subj,
         pred,

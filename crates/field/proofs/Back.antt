@@ -6,7 +6,7 @@ use native.Mathlib.Nat.{add-assoc}
 use native.Mathlib.Omega.{arith}
 use lib.ListN.{length, getD}
 use lib.Seq.{getD-append-add}
-use Rattle.field.specs.Numbers.{twoAt, fourAt, eightAt, twoBytes, fourBytes, eightBytes}
+use Rattle.field.specs.Numbers.{twoHold, fourHold, twoAt, fourAt, eightAt, twoBytes, fourBytes, eightBytes}
 use Rattle.field.proofs.Writing.{length-two, length-four}
 
 -- what stands behind other bytes
@@ -23,18 +23,18 @@ module _ (pre x : List ℕ) where
   unfolding eightAt
   eight-behind k = rw (four-behind k, add-assoc (length pre) k 4, four-behind (k + 4)) refl
 
-pub two-back : (n : ℕ) (x : List ℕ) → n < 65536 → twoAt (twoBytes n ++ x) 0 ≡ n
+pub two-back : (n : ℕ) (x : List ℕ) → n < twoHold → twoAt (twoBytes n ++ x) 0 ≡ n
 unfolding twoAt twoBytes
 two-back n x h = omega arith
 
 two-past : (v x : List ℕ) → length v ≡ 2 → twoAt (v ++ x) 2 ≡ twoAt x 0
 two-past v x e = ap (twoAt (v ++ x)) (rw e refl) ∙ two-behind v x 0
 
-pub four-back : (n : ℕ) (x : List ℕ) → n < 4294967296 → fourAt (fourBytes n ++ x) 0 ≡ n
+pub four-back : (n : ℕ) (x : List ℕ) → n < fourHold → fourAt (fourBytes n ++ x) 0 ≡ n
 unfolding fourAt fourBytes
 four-back n x h =
-    let hi = n / 65536 % 65536 in
-    let lo = n % 65536 in
+    let hi = n / twoHold % twoHold in
+    let lo = n % twoHold in
     rw (append-assoc (twoBytes hi) (twoBytes lo) x, two-back hi (twoBytes lo ++ x) (omega arith), two-past (twoBytes hi) (twoBytes lo ++ x) (length-two hi), two-back lo x (omega arith))
     (omega arith)
 
@@ -44,7 +44,7 @@ four-past v x e = ap (fourAt (v ++ x)) (rw e refl) ∙ four-behind v x 0
 pub eight-back : (n : ℕ) (x : List ℕ) → n < 18446744073709551616 → eightAt (eightBytes n ++ x) 0 ≡ n
 unfolding eightAt eightBytes
 eight-back n x h =
-    let hi = n / 4294967296 % 4294967296 in
-    let lo = n % 4294967296 in
+    let hi = n / fourHold % fourHold in
+    let lo = n % fourHold in
     rw (append-assoc (fourBytes hi) (fourBytes lo) x, four-back hi (fourBytes lo ++ x) (omega arith), four-past (fourBytes hi) (fourBytes lo ++ x) (length-four hi), four-back lo x (omega arith))
     (omega arith)

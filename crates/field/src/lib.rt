@@ -3,8 +3,16 @@
 ghost use mathlib.Core.Path.{_≡_};
 ghost use Rattle.field.specs.Fields.{fieldAt};
 
-pub mod number;
+mod number;
+// A walk of who holds a reader cites these by their module.
 pub mod reader;
+
+pub use number::eight;
+pub use number::put_eight;
+pub use number::put_front;
+pub use number::put_pair;
+pub use number::put_two;
+pub use number::two;
 
 // The three bytes of tag and length that every field begins with.
 pub const FRONT: usize = 3;

@@ -1,8 +1,6 @@
 -- Laws that belong to no one function.
-pub mod Refusing
 pub mod Lanes
 pub mod Laws
-pub mod Second
 pub mod Ends
 pub mod Slotted
 pub mod Faithful
@@ -10,16 +8,9 @@ pub mod Made
 pub mod Lanewise
 pub mod Judged
 pub mod Outcomes
-pub mod Accepted
 pub mod AtMost
 pub mod TargetsLeadOn
 pub mod ZeroIsDone
-pub mod Masks
-pub mod SurelyBound
-pub mod Faulty
-pub mod Limits
-pub mod LowestPlace
 pub mod AfterReading
-pub mod ReadsBack
 pub mod Asked
 pub mod CompilingDetermined

@@ -1,7 +1,7 @@
 -- The bench examples P1 to P10 hold for the definitions: the rules that draw the new rows are named, the rest computes. Assumes nothing.
 use mathlib.Core.Path.{refl}
 use mathlib.Core.List.{List, [], _∷_}
-use Rattle.table.specs.Examples.{Every}
+use Rattle.ground.specs.Lists.{Every}
 use Rattle.table.proofs.ExamplesHold.{examples-hold as table-examples-hold}
 use Rattle.rhodf.specs.Rules.{r2b, r3a, r3b, r4b, r5a, r5b}
 use Rattle.rhodf.specs.Examples.{P1, P3, P4, P5, P6, P7, P8, P9, P10, RangeBeyondBlank, ThreeClasses, examples}

@@ -1,12 +1,12 @@
 -- What a done adding leaves is sound, its graph is the old one joined with the new triple at that triple and unchanged elsewhere,
 -- and adding twice is adding once. Assumes nothing.
 use mathlib.Core.Path.{_≡_, refl, sym, ap, _∙_}
-use mathlib.Core.Bool.{Bool, true, false, cond}
+use mathlib.Core.Bool.{true, false}
 use mathlib.Core.List.{List, [], _∷_, _++_, map}
-use Prim.Native.Nat.{ℕ, zero, suc, _+_, _≤_, _<_}
+use Prim.Native.Nat.{ℕ, _+_, _≤_}
 use native.Mathlib.Omega.{arith}
-use lib.ListN.{length, getD, drop, length-append, length-drop, length-map, List·getD-append, List·getD-map}
-use lib.Dec.{eqb, ltb}
+use lib.ListN.{length, drop, length-map}
+use lib.Dec.{ltb}
 use lib.Seq.{drop-at}
 use borrow.Author.Tests.{ltb-false, le-ltb}
 use Rattle.term.specs.Refusal.{Check, done, first, refuse}
@@ -14,16 +14,15 @@ use Rattle.term.specs.declared.refusal.Verdict.{Verdict}
 use Rattle.term.proofs.Firsts.{first-done, first-clear, first-left, first-none, first-passes, first-split, numbered-append}
 use Rattle.annotation.specs.Kinds.{algebra}
 use Rattle.annotation.proofs.KindLaws.{laws}
-use Rattle.table.specs.Rows.{Triple, Row, Lanes, lanes, rowsOf, tab, laid, valueAt, isTriple}
+use Rattle.table.specs.Rows.{Triple, Row, Lanes, rowsOf, laid, valueAt, isTriple}
 use Rattle.table.specs.Checks.{tableChecks, tripleChecks}
-use Rattle.table.specs.Sound.{LegalRow, Sound, SoundRows}
+use Rattle.table.specs.Sound.{LegalRow, Sound}
 use Rattle.table.specs.Adding.{rowsWith, addChecks, addDone, Adding}
-use Rattle.table.proofs.Tab.{laid-rows, laid-long}
 use Rattle.table.proofs.Judging.{table-numbered, triple-numbered}
-use Rattle.table.proofs.Soundness.{passes-sound, sound-passes, triple-legal, triple-passes, sound-list, list-sound}
+use Rattle.table.proofs.Soundness.{passes-sound, sound-passes, triple-legal, triple-passes, sound-list, list-sound, sound-within}
 use Rattle.table.proofs.Putting.{sound-add}
-use Rattle.table.proofs.Ordering.{add-twice}
-use Rattle.table.proofs.Values.{Small, legal-small, all-legal-small, tripleOf, is-triple, value-add-same, value-add-other}
+use Rattle.table.proofs.Values.{legal-small, all-legal-small, tripleOf, value-add-same, value-add-other}
+use Rattle.table.proofs.Laid.{laid-rows, laid-as-long}
 
 pub laid-again : (f : Row → ℕ) (R : List Row) (l : List ℕ) → drop (length R) (map f R ++ drop (length R) l) ≡ drop (length R) l
 laid-again f R l = drop-at (map f R) (drop (length R) l) (length R) (length-map R f)
@@ -81,7 +80,7 @@ module _ (kind : ℕ) (r : Row) (l : Lanes) (n : ℕ) where
     add-legal = f .legal
 
     pub add-fits : length after ≤ length (m .subj)
-    add-fits = rw add-lanes (omega (arith, laid-long (λ (x : Row). x .s) after (l .subj) (f .room), f .room))
+    add-fits = rw add-lanes (omega (arith, laid-as-long after l (sound-within (f .sound) (f .room)) .same-subj, f .room))
 
     -- the rows are the old ones with the triple added
     pub add-rows : rowsOf m count ≡ after
@@ -91,24 +90,20 @@ module _ (kind : ℕ) (r : Row) (l : Lanes) (n : ℕ) where
     pub add-keeps-sound : Sound kind m count
     add-keeps-sound =
         let h = f .sound in
-        let room = f .room in
-        let s = laid-long (λ (x : Row). x .s) after (l .subj) room in
-        let p = laid-long (λ (x : Row). x .p) after (l .pred) (omega (arith, h .pred-long)) in
-        let o = laid-long (λ (x : Row). x .o) after (l .obj) (omega (arith, h .obj-long)) in
-        let v = laid-long (λ (x : Row). x .a) after (l .ann) (omega (arith, h .ann-long)) in
-        list-sound kind l m n count h (rw add-lanes s) (rw add-lanes p) (rw add-lanes o) (rw add-lanes v)
-        (rw (add-lanes, add-count) (omega arith))
-        (rw add-rows (sound-add kind r (rowsOf l n) (f .legal) (sound-list kind l n h)))
+        let long = laid-as-long after l (sound-within h (f .room)) in
+        list-sound h m count (rw add-lanes long)
+        (rw (add-lanes, add-count) (omega (arith, long .same-subj, f .room)))
+        (rw add-rows (sound-add kind r (rowsOf l n) (f .legal) (sound-list h)))
 
     -- its graph is the old one, joined with the new triple at that triple
     pub add-joins-there : valueAt (rowsOf m count) (tripleOf r) ≡ algebra kind .join (valueAt (rowsOf l n) (tripleOf r)) (r .a)
     add-joins-there =
-        let s = sound-list kind l n (f .sound) in
+        let s = sound-list (f .sound) in
         ap (λ (R : List Row). valueAt R (tripleOf r)) add-rows
         ∙ value-add-same (algebra kind) r (legal-small (f .legal)) (laws kind) (rowsOf l n) (all-legal-small kind (rowsOf l n) (s .legal)) (s .ascending)
 
     pub add-keeps-others : (t : Triple) → isTriple t r ≡ false → valueAt (rowsOf m count) t ≡ valueAt (rowsOf l n) t
     add-keeps-others t h =
-        let s = sound-list kind l n (f .sound) in
+        let s = sound-list (f .sound) in
         ap (λ (R : List Row). valueAt R t) add-rows
         ∙ value-add-other (algebra kind) r (legal-small (f .legal)) (rowsOf l n) (all-legal-small kind (rowsOf l n) (s .legal)) t h

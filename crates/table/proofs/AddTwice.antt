@@ -1,10 +1,9 @@
 -- Adding twice is adding once: the second time is done, and changes nothing. Assumes nothing.
 use mathlib.Core.Path.{_≡_, refl, sym, ap, _∙_}
 use mathlib.Core.Bool.{true}
-use mathlib.Core.List.{List, _++_, map}
-use Prim.Native.Nat.{ℕ, _≤_}
+use Prim.Native.Nat.{ℕ}
 use native.Mathlib.Omega.{arith}
-use lib.ListN.{length, drop}
+use lib.ListN.{length}
 use Rattle.term.specs.Refusal.{first}
 use Rattle.term.specs.declared.refusal.Verdict.{Verdict}
 use Rattle.annotation.specs.Kinds.{algebra}

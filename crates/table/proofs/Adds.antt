@@ -1,20 +1,20 @@
 -- What `add` leaves: refused by the table, by the triple, for room, or done. Assumes nothing.
 use mathlib.Core.Path.{_≡_, refl, sym, ap, _∙_}
 use mathlib.Core.Bool.{Bool, true, false, cond}
-use mathlib.Core.List.{List, [], _∷_, _++_}
+use mathlib.Core.List.{[], _∷_, _++_}
 use Prim.Native.Nat.{ℕ, _≤_, _<_}
 use native.Mathlib.Omega.{arith}
 use lib.ListN.{length}
 use lib.Dec.{eqb, ltb}
 use borrow.Author.Tests.{ne-eqb}
-use Rattle.term.specs.Refusal.{Check, refuse, verdict, done, first}
+use Rattle.term.specs.Refusal.{refuse, verdict, done, first}
 use Rattle.term.specs.declared.refusal.Verdict.{Verdict}
 use Rattle.term.proofs.Firsts.{first-stops, first-clear, first-done, first-place, first-holds, first-passes}
 use Rattle.table.specs.Rows.{Row, Lanes}
 use Rattle.table.specs.Checks.{tripleChecks, tableChecks}
 use Rattle.table.specs.Sound.{LegalRow, Sound}
 use Rattle.table.specs.Adding.{rowsWith, addChecks, addDone, Adding}
-use Rattle.table.specs.Putting.{Put, PutInto}
+use Rattle.table.specs.Putting.{Put}
 use Rattle.table.proofs.Judging.{triple-at, triple-numbered, table-numbered}
 use Rattle.table.proofs.Soundness.{passes-sound, triple-legal}
 

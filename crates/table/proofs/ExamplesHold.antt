@@ -1,10 +1,10 @@
 -- The bench examples hold for the definitions. Assumes nothing.
-use mathlib.Core.Path.{_≡_, refl}
-use mathlib.Core.List.{[], _∷_}
-use lib.Bits.{bitOr}
+use mathlib.Core.Path.{refl}
+use mathlib.Core.List.{[]}
+use Rattle.ground.specs.Lists.{Every}
 use Rattle.annotation.specs.Kinds.{algebra}
 use Rattle.table.specs.Rows.{addRow}
-use Rattle.table.specs.Examples.{Every, P2, examples}
+use Rattle.table.specs.Examples.{P2, examples}
 
 p2 : P2
 unfolding addRow algebra

@@ -1,13 +1,14 @@
 -- A row put in at its place, or joined to the row of its key, is `addRow`; and the sum of annotations then. Assumes nothing.
-use mathlib.Core.Path.{_≡_, refl, sym, ap, _∙_}
-use mathlib.Core.List.{List, [], _∷_, _++_}
+use mathlib.Core.Path.{_≡_, refl, sym, ap}
+use mathlib.Core.List.{[]}
 use Prim.Native.Nat.{ℕ, zero, suc, _+_, _≤_, _<_, zero-le}
 use native.Mathlib.Omega.{arith}
 use lib.ListN.{length}
 use borrow.Author.Tests.{lt-ltb, le-ltb, eq-eqb, ne-eqb}
+use Rattle.ground.specs.Lists.{tab}
+use Rattle.ground.proofs.Tab.{tab-length, tab-ext}
 use Rattle.annotation.specs.Algebra.{Algebra}
-use Rattle.table.specs.Rows.{Row, key, tab, addRow, joined, total}
-use Rattle.table.proofs.Tab.{tab-length, tab-ext}
+use Rattle.table.specs.Rows.{Row, key, addRow, joined, total}
 
 -- one row of a table that is put in, at its place
 pub add-inserts : (K : Algebra) (r : Row) (at n : ℕ) (f g : ℕ → Row)

@@ -10,29 +10,13 @@ use lib.Dec.{leb, ltb}
 use borrow.Author.Tests.{lt-ltb, le-ltb, lt-leb, le-leb}
 use native.Mathlib.Omega.{arith}
 use Rattle.term.specs.Refusal.{Check, refuse, verdict, done, first}
-use Rattle.term.specs.Term.{isLegalTerm, isName, termChecks, predicateChecks}
-use Rattle.term.proofs.Firsts.{Numbered, numbered-append, AllAt, first-stops, first-clear, first-place, first-holds, first-passes, number-alike}
+use Rattle.term.specs.Term.{isLegalTerm, isName, predicateChecks}
+use Rattle.term.proofs.Firsts.{Numbered, numbered-append, AllAt, at-append, first-stops, first-clear, first-place, first-holds, first-passes, number-alike}
 use Rattle.term.specs.declared.refusal.Verdict.{Verdict}
-use Rattle.annotation.specs.Kinds.{isLegal, kindChecks, annotationChecks}
+use Rattle.annotation.specs.Kinds.{kindChecks, annotationChecks}
+use Rattle.annotation.proofs.Judged.{kind-numbered, kind-refused, annotation-numbered, annotation-at, annotation-alike}
 use Rattle.table.specs.Rows.{Row, Lanes, rowAt, keyAt}
 use Rattle.table.specs.Checks.{tripleChecks, rowChecks, rowsChecks, isNotAbove, isUnfit, tableChecks}
-
--- what a term's refusal number says
-term-of : (b : Bool) → 0 < cond (not b) (verdict 8 0) done .number → b ≡ false
-term-of true h = absurd (omega arith)
-term-of false h = refl
-
-term-ok-of : (b : Bool) → cond (not b) (verdict 8 0) done .number ≤ 0 → b ≡ true
-term-ok-of true h = refl
-term-ok-of false h = absurd (omega arith)
-
-pub term-illegal : (t n : ℕ) → n ≡ first (termChecks t 0) .number → 0 < n → isLegalTerm t ≡ false
-unfolding first
-term-illegal t n e h = term-of (isLegalTerm t) (rw (← e) h)
-
-pub term-legal : (t n : ℕ) → n ≡ first (termChecks t 0) .number → n ≤ 0 → isLegalTerm t ≡ true
-unfolding first
-term-legal t n e h = term-ok-of (isLegalTerm t) (rw (← e) h)
 
 -- the number of a triple: 8 by the subject, by the object, then the predicate's, then the annotation's
 module _ (kind : ℕ) (r : Row) where
@@ -73,19 +57,23 @@ module _ (kind : ℕ) (r : Row) where
 
 -- a triple's number is the same at every place
 pub triple-anywhere : (kind : ℕ) (r : Row) (p : ℕ) → first (tripleChecks kind r 0) .number ≡ first (tripleChecks kind r p) .number
-triple-anywhere kind r p = number-alike (tripleChecks kind r 0) (tripleChecks kind r p) ((refl, refl), ((refl, refl), ((refl, refl), tt)))
+triple-anywhere kind r p = number-alike (tripleChecks kind r 0) (tripleChecks kind r p) ((refl, refl), ((refl, refl), annotation-alike kind (r .a) 0 p))
 
 pub triple-at : (kind : ℕ) (r : Row) (p : ℕ) → AllAt p (tripleChecks kind r p)
-triple-at kind r p = (refl, (refl, (refl, tt)))
+triple-at kind r p = (refl, (refl, annotation-at kind (r .a) p))
 
 pub triple-numbered : (kind : ℕ) (r : Row) (p : ℕ) → Numbered (tripleChecks kind r p)
-triple-numbered kind r p = (omega arith, (omega arith, (omega arith, tt)))
+triple-numbered kind r p = (omega arith, (omega arith, annotation-numbered kind (r .a) p))
+
+-- "15: row not above the one before"
+abbrev orderCheck : Lanes → ℕ → Check
+orderCheck l i = refuse (isNotAbove (l .subj) (l .pred) (l .obj) i) 15 i
 
 row-at : (kind : ℕ) (l : Lanes) (i : ℕ) → AllAt i (rowChecks kind l i)
-row-at kind l i = (refl, (refl, (refl, (refl, tt))))
+row-at kind l i = at-append i (tripleChecks kind (rowAt l i) i) (orderCheck l i ∷ []) (triple-at kind (rowAt l i) i) (refl, tt)
 
 row-numbered : (kind : ℕ) (l : Lanes) (i : ℕ) → Numbered (rowChecks kind l i)
-row-numbered kind l i = (omega arith, (omega arith, (omega arith, (omega arith, tt))))
+row-numbered kind l i = numbered-append (tripleChecks kind (rowAt l i) i) (orderCheck l i ∷ []) (triple-numbered kind (rowAt l i) i) (omega arith, tt)
 
 rows-numbered : (kind : ℕ) (l : Lanes) (i n : ℕ) → Numbered (rowsChecks kind l i n)
 unfolding rowsChecks
@@ -93,7 +81,9 @@ rows-numbered kind l i zero = tt
 rows-numbered kind l i (suc n) = numbered-append (rowChecks kind l i) (rowsChecks kind l (suc i) n) (row-numbered kind l i) (rows-numbered kind l (suc i) n)
 
 pub table-numbered : (kind : ℕ) (l : Lanes) (n : ℕ) → Numbered (tableChecks kind l n)
-table-numbered kind l n = (omega arith, (omega arith, (omega arith, rows-numbered kind l 0 n)))
+table-numbered kind l n =
+    numbered-append (kindChecks kind 0) (refuse (isUnfit l) 11 0 ∷ refuse (ltb (length (l .subj)) n) 14 0 ∷ rowsChecks kind l 0 n) (kind-numbered kind 0)
+    (omega arith, (omega arith, rows-numbered kind l 0 n))
 
 -- the number of a row: its triple's, then 15
 module _ (kind : ℕ) (l : Lanes) (i n : ℕ) (e : n ≡ first (tripleChecks kind (rowAt l i) 0) .number) where
@@ -161,18 +151,13 @@ module _ (kind : ℕ) (l : Lanes) (n : ℕ) where
   abbrev past-kind : List Check
   past-kind = refuse (isUnfit l) 11 0 ∷ refuse (ltb (length (l .subj)) n) 14 0 ∷ rowsChecks kind l 0 n
 
-  is-four : (b : Bool) (v : Verdict) → 0 < cond b (verdict 4 0) done .number → verdict 4 0 ≡ cond b (verdict 4 0) v
-  is-four true v h = refl
-  is-four false v h = absurd (omega arith)
-
   module _ (k : ℕ) (e : k ≡ first (kindChecks kind 0) .number) where
     pub table-by-kind : 0 < k → verdict 4 0 ≡ first (tableChecks kind l n)
-    unfolding first
-    table-by-kind h = is-four (not (leb 1 kind && leb kind 4)) _ (rw (← e) h)
+    table-by-kind h = sym (kind-refused kind 0 past-kind (rw (← e) h))
 
     module _ (z : k ≤ 0) where
       to-lanes : first (tableChecks kind l n) ≡ first past-kind
-      to-lanes = first-clear (kindChecks kind 0) past-kind (omega arith, tt) (sym e ∙ omega arith)
+      to-lanes = first-clear (kindChecks kind 0) past-kind (kind-numbered kind 0) (sym e ∙ omega arith)
 
       pub table-by-lanes : isUnfit l ≡ true → verdict 11 0 ≡ first (tableChecks kind l n)
       table-by-lanes h = sym (to-lanes ∙ first-holds (isUnfit l) 11 0 _ h)

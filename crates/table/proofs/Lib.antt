@@ -1,5 +1,5 @@
 -- Laws that belong to no one function, bottom to top.
-pub mod Tab
+pub mod Laid
 pub mod Opening
 pub mod Inserting
 pub mod Ordering

@@ -5,7 +5,7 @@ use mathlib.Core.List.{List, [], _∷_, _++_, append-assoc, append-nil}
 use Prim.Native.Nat.{ℕ, _≤_, _<_}
 use native.Mathlib.Omega.{arith}
 use lib.ListN.{length}
-use Rattle.annotation.specs.Algebra.{Algebra, Laws}
+use Rattle.annotation.specs.Algebra.{Algebra}
 use Rattle.annotation.specs.Kinds.{algebra}
 use Rattle.annotation.proofs.KindLaws.{laws}
 use Rattle.table.specs.Rows.{Triple, Row, key, addRow, addAll, isTriple, valueAt}

@@ -1,12 +1,13 @@
 -- Rows that ascend still ascend with a row added; and adding twice is adding once. Assumes nothing.
-use mathlib.Core.Path.{_≡_, refl, sym, ap, _∙_}
+use mathlib.Core.Path.{_≡_, refl, ap, _∙_}
 use mathlib.Core.List.{List, [], _∷_}
 use Prim.Native.Nat.{ℕ, zero, suc, _<_}
 use native.Mathlib.Decide.{decLt}
 use native.Mathlib.Omega.{arith}
 use borrow.Author.Tests.{lt-ltb, le-ltb, eq-eqb, ne-eqb}
+use Rattle.ground.specs.Lists.{tab}
 use Rattle.annotation.specs.Algebra.{Algebra, Laws}
-use Rattle.table.specs.Rows.{Row, row, key, joined, addRow, tab}
+use Rattle.table.specs.Rows.{Row, row, key, joined, addRow}
 use Rattle.table.specs.Sound.{Over, Ascending}
 
 -- two numbers are in one of three orders

@@ -2,27 +2,26 @@
 use mathlib.Core.Path.{_≡_, refl, sym, ap, _∙_}
 use mathlib.Core.Bool.{Bool, true, false, true≢false, false≢true}
 use mathlib.Core.List.{List, [], _∷_}
-use Prim.Native.Nat.{ℕ, zero, suc, _+_, _≤_, _<_}
+use Prim.Native.Nat.{ℕ, suc, _+_, _≤_, _<_}
 use native.Mathlib.Numerals.{add-one}
 use native.Mathlib.Omega.{arith}
 use lib.ListN.{length, getD, set, length-set}
 use lib.Seq.{getD-set-same, getD-set-other, set-getD}
-use lib.Dec.{ltb}
 use borrow.Author.Tests.{lt-ltb, le-ltb}
-use Rattle.annotation.specs.Algebra.{Algebra}
+use Rattle.ground.proofs.Tab.{tab-length}
 use Rattle.annotation.specs.Kinds.{algebra, isLegal}
 use Rattle.annotation.proofs.KindLaws.{laws}
 use Rattle.annotation.proofs.Legal.{legal-value, value-legal}
-use Rattle.table.specs.Rows.{Row, Lanes, row, lanes, key, keyOf, keyAt, tab, rowAt, rowsOf, addRow, joined, total, laid}
-use Rattle.table.specs.Sound.{LegalRow, Sound, AllLegal, SoundRows}
+use Rattle.table.specs.Rows.{Row, Lanes, row, lanes, key, keyOf, keyAt, rowAt, rowsOf, addRow, joined, laid, AsLong}
+use Rattle.table.specs.Sound.{LegalRow, AllLegal, SoundRows}
 use Rattle.table.specs.Adding.{rowsWith}
 use Rattle.table.specs.Places.{Placed}
 use Rattle.table.specs.Putting.{opened, JoinedAt, PutInto, Put}
-use Rattle.table.proofs.Tab.{tab-length, laid-is}
 use Rattle.table.proofs.Opening.{length-opened, opened-before, opened-at, opened-moved, opened-past}
 use Rattle.table.proofs.Inserting.{add-inserts, add-joins, add-long, total-set, total-insert}
 use Rattle.table.proofs.Ordering.{Tri, less, same, more, tri, add-none, add-less, add-same, add-more, ascending-add}
-use Rattle.table.proofs.Soundness.{sound-list, list-sound}
+use Rattle.table.proofs.Soundness.{sound-within, sound-rows-within, sound-list, list-sound}
+use Rattle.table.proofs.Laid.{laid-is, as-long-self}
 
 -- legal rows stay legal with a legal row added
 module _ (kind : ℕ) where
@@ -65,14 +64,19 @@ module _ (kind : ℕ) (S P O A : List ℕ) (n s p o a k at : ℕ)
   low i q = omega (arith, pl .before i q)
 
   with-sound : SoundRows kind (rowsWith kind r l n)
-  with-sound = sound-add kind r (rowsOf l n) (pre .legal) (sound-list kind l n (pre .sound))
+  with-sound = sound-add kind r (rowsOf l n) (pre .legal) (sound-list (pre .sound))
 
   module _ (A′ : List ℕ) (c : Bool) (ht : at < n) (e : k ≡ keyAt S P O at) (me : JoinedAt kind A at a A′ c) where
     abbrev m : Lanes
     m = lanes S P O A′
 
-    long-a : length A′ ≡ length A
-    long-a = ap length (me .stored) ∙ length-set A at (algebra kind .join (getD A at 0) a)
+    long-joined : AsLong l m
+    long-joined = record {
+      same-subj = refl;
+      same-pred = refl;
+      same-obj = refl;
+      same-ann = ap length (me .stored) ∙ length-set A at (algebra kind .join (getD A at 0) a);
+    }
 
     in-ann : at < length A
     in-ann = omega (arith, pre .sound .within, pre .sound .ann-long)
@@ -93,15 +97,11 @@ module _ (kind : ℕ) (S P O A : List ℕ) (n s p o a k at : ℕ)
     as-before z = me .stored ∙ ap (set A at) (me .same z) ∙ set-getD A at 0
 
     laid-joined : m ≡ laid (rowsOf m n) l
-    laid-joined =
-        let h = pre .sound in
-        laid-is l m n refl refl refl long-a (h .within)
-        (omega (arith, h .within, h .pred-long)) (omega (arith, h .within, h .obj-long)) (omega (arith, h .within, h .ann-long))
-        (λ i q. other i (λ w. omega arith))
+    laid-joined = laid-is l m n long-joined (sound-rows-within (pre .sound)) (λ i q. other i (λ w. omega arith))
 
     pub put-joined : Put kind r l n m false c n
     put-joined = record {
-      as-long = refl;
+      as-long = long-joined;
       more = omega arith;
       full-is = sym (le-ltb (length S) _ (rw (← rows-joined, tab-length n (rowAt m)) (pre .sound .within)));
       full-still = λ z. absurd (false≢true z);
@@ -113,7 +113,7 @@ module _ (kind : ℕ) (S P O A : List ℕ) (n s p o a k at : ℕ)
           let ne : getD A′ at 0 ≡ getD A at 0 → ⊥ = λ w. me .other z (sym here ∙ w) in
           total-set at n (rowAt l) (rowAt m) ht (λ i q w. other i w) (omega (arith, here, laws kind .join-grows (getD A at 0) a, ne));
       rest = λ i q. other i (λ w. omega arith);
-      sound = list-sound kind l m n n (pre .sound) refl refl refl long-a (pre .sound .within) (rw rows-joined with-sound);
+      sound = list-sound (pre .sound) m n long-joined (pre .sound .within) (rw rows-joined with-sound);
     }
 
   module _ (ne : at < n → k ≡ keyAt S P O at → ⊥) where
@@ -156,17 +156,24 @@ module _ (kind : ℕ) (S P O A : List ℕ) (n s p o a k at : ℕ)
       rows-put : rowsOf after (n + 1) ≡ rowsWith kind r l n
       rows-put = rw (add-one n) (add-inserts (algebra kind) r at n (rowAt l) (rowAt after) (pl .within) low high g-before g-at g-moved)
 
-      laid-put : after ≡ laid (rowsOf after (n + 1)) l
-      laid-put =
+      long-put : AsLong l after
+      long-put =
           let w : at ≤ n = pl .within in
-          laid-is l after (n + 1) (length-opened at n s S w room) (length-opened at n p P w hP) (length-opened at n o O w hO) (length-opened at n a A w hA)
-          (omega arith) (omega (arith, hP)) (omega (arith, hO)) (omega (arith, hA)) (λ i q. g-past i (omega arith))
+          record {
+            same-subj = length-opened at n s S w room;
+            same-pred = length-opened at n p P w hP;
+            same-obj = length-opened at n o O w hO;
+            same-ann = length-opened at n a A w hA;
+          }
+
+      laid-put : after ≡ laid (rowsOf after (n + 1)) l
+      laid-put = laid-is l after (n + 1) long-put (sound-within (pre .sound) (omega arith)) (λ i q. g-past i (omega arith))
 
       pub put-in : Put kind r l n after false true (n + 1)
       put-in =
           let w : at ≤ n = pl .within in
           record {
-            as-long = length-opened at n s S w room;
+            as-long = long-put;
             more = omega arith;
             full-is = sym (le-ltb (length S) _ (rw (← rows-put, tab-length (n + 1) (rowAt after)) (omega arith)));
             full-still = λ z. absurd (false≢true z);
@@ -176,14 +183,12 @@ module _ (kind : ℕ) (S P O A : List ℕ) (n s p o a k at : ℕ)
             still = λ z. absurd (true≢false z);
             grows = λ z. rw (add-one n) (omega (arith, total-insert r at n (rowAt l) (rowAt after) w g-before g-at g-moved, legal-value a kind (pre .legal .annotation)));
             rest = λ i q. g-past i (omega arith);
-            sound = list-sound kind l after n (n + 1) (pre .sound)
-                (length-opened at n s S w room) (length-opened at n p P w hP) (length-opened at n o O w hO) (length-opened at n a A w hA)
-                (omega (arith, length-opened at n s S w room)) (rw rows-put with-sound);
+            sound = list-sound (pre .sound) after (n + 1) long-put (omega (arith, long-put .same-subj)) (rw rows-put with-sound);
           }
 
     pub put-full : length S ≤ n → Put kind r l n l true false n
     put-full h = record {
-      as-long = refl;
+      as-long = as-long-self l;
       more = omega arith;
       full-is = sym (lt-ltb (length S) _ (rw (add-long (algebra kind) r at n (rowAt l) (pl .within) low high) (omega arith)));
       full-still = λ z. refl;

@@ -1,28 +1,24 @@
 -- The table check is done exactly on the sound tables. Assumes nothing.
-use mathlib.Core.Path.{_≡_, refl, sym, ap, _∙_}
-use mathlib.Core.Bool.{Bool, true, false, not, _&&_, true≢false}
-use mathlib.Core.List.{List, [], _∷_, _++_}
+use mathlib.Core.Path.{_≡_, refl, sym, _∙_}
+use mathlib.Core.Bool.{true, false, not, _&&_, and-eq-true-iff}
+use mathlib.Core.List.{List, [], _++_}
 use Prim.Native.Nat.{ℕ, zero, suc, _+_, _≤_, _<_}
 use native.Mathlib.Omega.{arith}
 use lib.ListN.{length}
 use lib.Dec.{eqb, leb, ltb}
 use borrow.Author.Tests.{eqb-true, leb-true, leb-false, ltb-false, not-false, eq-eqb, le-leb, lt-leb, le-ltb}
-use Rattle.term.specs.Refusal.{Check, refuse, verdict, done, first}
-use Rattle.term.specs.Term.{isLegalTerm, isName, sortOf}
+use Rattle.ground.specs.Lists.{tab}
+use Rattle.term.specs.Refusal.{Check, done, first}
+use Rattle.term.specs.Term.{isLegalTerm, isName}
 use Rattle.term.proofs.Firsts.{first-passes, first-split}
-use Rattle.annotation.specs.Kinds.{isLegal}
-use Rattle.table.specs.Rows.{Row, Lanes, rowAt, rowsOf, key, keyAt, tab}
+use Rattle.term.proofs.Sorts.{name-legal}
+use Rattle.annotation.specs.Kinds.{isKind}
+use Rattle.annotation.proofs.Judged.{kind-passes, passes-kind, annotation-passes, passes-annotation}
+use Rattle.table.specs.Rows.{Row, Lanes, AsLong, mostRows, rowAt, rowsOf}
 use Rattle.table.specs.Checks.{tripleChecks, rowChecks, rowsChecks, isNotAbove, isUnfit, tableChecks}
-use Rattle.table.specs.Sound.{LegalRow, Sound, Ascending, AllLegal, SoundRows}
+use Rattle.table.specs.Sound.{LegalRow, Sound, AllLegal, SoundRows}
 use Rattle.table.specs.Places.{Ordered, RowsWithin}
 use Rattle.table.proofs.Ordering.{Tri, less, same, more, tri, ascending-tab, tab-ascending}
-
-pub both : (u v : Bool) → u && v ≡ true → (u ≡ true) × (v ≡ true)
-both true v h = (refl, h)
-both false v h = absurd (true≢false (sym h))
-
-name-legal : (t : ℕ) → isName t ≡ true → isLegalTerm t ≡ true
-name-legal t h = le-leb (sortOf t) 2 (omega (arith, eqb-true (sortOf t) 0 h))
 
 -- a triple passes its checks exactly if it is legal
 module _ (kind : ℕ) (r : Row) (place : ℕ) (cs : List Check) where
@@ -32,19 +28,19 @@ module _ (kind : ℕ) (r : Row) (place : ℕ) (cs : List Check) where
       = rw (h .subject, name-legal (r .p) (h .predicate), h .object) refl in
       first-passes _ 8 place _ e
       ∙ first-passes (not (isName (r .p))) 9 place _ (rw (h .predicate) refl)
-      ∙ first-passes (not (isLegal kind (r .a))) 10 place cs (rw (h .annotation) refl)
+      ∙ annotation-passes kind (r .a) place cs (h .annotation)
 
   pub triple-legal : first (tripleChecks kind r place ++ cs) ≡ done → LegalRow kind r × (first cs ≡ done)
   triple-legal e =
       let e8 = first-split 8 place (not (isLegalTerm (r .s) && (isLegalTerm (r .p) && isLegalTerm (r .o)))) _ (omega arith) e in
       let e9 = first-split 9 place (not (isName (r .p))) _ (omega arith) (e8 .1) in
-      let e10 = first-split 10 place (not (isLegal kind (r .a))) cs (omega arith) (e9 .1) in
-      let terms = both (isLegalTerm (r .s)) (isLegalTerm (r .p) && isLegalTerm (r .o)) (not-false _ (e8 .0)) in (
+      let e10 = passes-annotation kind (r .a) place cs (e9 .1) in
+      let terms = and-eq-true-iff (isLegalTerm (r .s)) (isLegalTerm (r .p) && isLegalTerm (r .o)) .0 (not-false _ (e8 .0)) in (
         record {
           subject = terms .0;
           predicate = not-false (isName (r .p)) (e9 .0);
-          object = both (isLegalTerm (r .p)) (isLegalTerm (r .o)) (terms .1) .1;
-          annotation = not-false (isLegal kind (r .a)) (e10 .0);
+          object = and-eq-true-iff (isLegalTerm (r .p)) (isLegalTerm (r .o)) .0 (terms .1) .1;
+          annotation = e10 .0;
         },
         e10 .1,
       )
@@ -87,7 +83,7 @@ module _ (kind : ℕ) (l : Lanes) where
 module _ (kind : ℕ) (l : Lanes) (n : ℕ) where
   fit-passes : Sound kind l n → isUnfit l ≡ false
   fit-passes h =
-      rw (eq-eqb _ _ (h .pred-long), eq-eqb _ _ (h .obj-long), eq-eqb _ _ (h .ann-long), le-leb (length (l .subj)) 1024 (h .long)) refl
+      rw (eq-eqb _ _ (h .pred-long), eq-eqb _ _ (h .obj-long), eq-eqb _ _ (h .ann-long), le-leb (length (l .subj)) mostRows (h .long)) refl
 
   above-passes : Sound kind l n → (i : ℕ) → i < n → isNotAbove (l .subj) (l .pred) (l .obj) i ≡ false
   above-passes h zero q = refl
@@ -95,7 +91,7 @@ module _ (kind : ℕ) (l : Lanes) (n : ℕ) where
 
   pub sound-passes : Sound kind l n → first (tableChecks kind l n) ≡ done
   sound-passes h =
-      first-passes (not (leb 1 kind && leb kind 4)) 4 0 _ (rw (le-leb 1 kind (h .kind-from), le-leb kind 4 (h .kind-to)) refl)
+      kind-passes kind 0 _ (h .kind-known)
       ∙ first-passes (isUnfit l) 11 0 _ (fit-passes h)
       ∙ first-passes (ltb (length (l .subj)) n) 14 0 _ (le-ltb (length (l .subj)) n (h .within))
       ∙ rows-pass kind l 0 n (λ j p q. record { legal = h .legal j (omega arith); above = above-passes h j (omega arith) })
@@ -105,13 +101,13 @@ module _ (kind : ℕ) (l : Lanes) (n : ℕ) where
     pub pred-long : length (l .pred) ≡ length (l .subj)
     pub obj-long : length (l .obj) ≡ length (l .subj)
     pub ann-long : length (l .ann) ≡ length (l .subj)
-    pub long : length (l .subj) ≤ 1024
+    pub long : length (l .subj) ≤ mostRows
 
   pub fit-of : isUnfit l ≡ false → Fit
   fit-of e =
-      let a = both (eqb (length (l .pred)) (length (l .subj))) _ (not-false _ e) in
-      let b = both (eqb (length (l .obj)) (length (l .subj))) _ (a .1) in
-      let c = both (eqb (length (l .ann)) (length (l .subj))) (leb (length (l .subj)) 1024) (b .1) in
+      let a = and-eq-true-iff (eqb (length (l .pred)) (length (l .subj))) _ .0 (not-false _ e) in
+      let b = and-eq-true-iff (eqb (length (l .obj)) (length (l .subj))) _ .0 (a .1) in
+      let c = and-eq-true-iff (eqb (length (l .ann)) (length (l .subj))) (leb (length (l .subj)) mostRows) .0 (b .1) in
       record {
         pred-long = eqb-true _ _ (a .0);
         obj-long = eqb-true _ _ (b .0);
@@ -121,15 +117,13 @@ module _ (kind : ℕ) (l : Lanes) (n : ℕ) where
 
   pub passes-sound : first (tableChecks kind l n) ≡ done → Sound kind l n
   passes-sound e =
-      let e4 = first-split 4 0 (not (leb 1 kind && leb kind 4)) _ (omega arith) e in
+      let e4 = passes-kind kind 0 _ e in
       let e11 = first-split 11 0 (isUnfit l) _ (omega arith) (e4 .1) in
       let e14 = first-split 14 0 (ltb (length (l .subj)) n) _ (omega arith) (e11 .1) in
-      let kinds = both (leb 1 kind) (leb kind 4) (not-false _ (e4 .0)) in
       let fit = fit-of (e11 .0) in
       let ok = rows-ok kind l 0 n (e14 .1) in
       record {
-        kind-from = leb-true 1 kind (kinds .0);
-        kind-to = leb-true kind 4 (kinds .1);
+        kind-known = e4 .0;
         pred-long = fit .pred-long;
         obj-long = fit .obj-long;
         ann-long = fit .ann-long;
@@ -149,20 +143,34 @@ module _ (kind : ℕ) (l : Lanes) (n : ℕ) where
         in-ann = omega (arith, fit .ann-long);
       }
 
-  pub sound-rows-within : Sound kind l n → RowsWithin l n
-  sound-rows-within h = record {
-    in-subj = h .within;
-    in-pred = omega (arith, h .within, h .pred-long);
-    in-obj = omega (arith, h .within, h .obj-long);
-    in-ann = omega (arith, h .within, h .ann-long);
+-- what the lanes of a sound table hold
+module _ {kind : ℕ} {l : Lanes} {n : ℕ} (h : Sound kind l n) where
+  pub sound-within : {k : ℕ} → k ≤ length (l .subj) → RowsWithin l k
+  sound-within q = record {
+    in-subj = q;
+    in-pred = omega (arith, h .pred-long);
+    in-obj = omega (arith, h .obj-long);
+    in-ann = omega (arith, h .ann-long);
   }
 
-  pub sound-ordered : Sound kind l n → Ordered (l .subj) (l .pred) (l .obj) n
-  sound-ordered h = record {
+  pub sound-rows-within : RowsWithin l n
+  sound-rows-within = sound-within (h .within)
+
+  pub sound-ordered : Ordered (l .subj) (l .pred) (l .obj) n
+  sound-ordered = record {
     in-subj = h .within;
-    in-pred = omega (arith, h .within, h .pred-long);
-    in-obj = omega (arith, h .within, h .obj-long);
+    in-pred = sound-rows-within .in-pred;
+    in-obj = sound-rows-within .in-obj;
     ascending = h .ascending;
+  }
+
+  -- of two sound tables one lane of each tells the others' lengths
+  pub sound-as-long : {m : Lanes} {n′ : ℕ} → Sound kind m n′ → length (m .subj) ≡ length (l .subj) → AsLong l m
+  sound-as-long g e = record {
+    same-subj = e;
+    same-pred = g .pred-long ∙ e ∙ sym (h .pred-long);
+    same-obj = g .obj-long ∙ e ∙ sym (h .obj-long);
+    same-ann = g .ann-long ∙ e ∙ sym (h .ann-long);
   }
 
 -- the rows of a sound table, as a list
@@ -177,16 +185,15 @@ tab-all-legal kind zero f h i q = absurd (omega arith)
 tab-all-legal kind (suc n) f h zero q = h .0
 tab-all-legal kind (suc n) f h (suc i) q = tab-all-legal kind n (λ i. f (suc i)) (h .1) i (omega arith)
 
-pub sound-list : (kind : ℕ) (l : Lanes) (n : ℕ) → Sound kind l n → SoundRows kind (rowsOf l n)
-sound-list kind l n h = record { ascending = ascending-tab n (rowAt l) (h .ascending); legal = all-legal-tab kind n (rowAt l) (h .legal) }
+pub sound-list : {kind : ℕ} {l : Lanes} {n : ℕ} → Sound kind l n → SoundRows kind (rowsOf l n)
+sound-list {kind} {l} {n} h = record { ascending = ascending-tab n (rowAt l) (h .ascending); legal = all-legal-tab kind n (rowAt l) (h .legal) }
 
 -- lanes that fit, with sound rows, are a sound table
-pub rows-sound : (kind : ℕ) (m : Lanes) (n : ℕ) → 1 ≤ kind → kind ≤ 4
+pub rows-sound : (kind : ℕ) (m : Lanes) (n : ℕ) → isKind kind ≡ true
     → length (m .pred) ≡ length (m .subj) → length (m .obj) ≡ length (m .subj) → length (m .ann) ≡ length (m .subj)
-    → length (m .subj) ≤ 1024 → n ≤ length (m .subj) → SoundRows kind (rowsOf m n) → Sound kind m n
-rows-sound kind m n from to lp lo la long fit rows = record {
-  kind-from = from;
-  kind-to = to;
+    → length (m .subj) ≤ mostRows → n ≤ length (m .subj) → SoundRows kind (rowsOf m n) → Sound kind m n
+rows-sound kind m n known lp lo la long fit rows = record {
+  kind-known = known;
   pred-long = lp;
   obj-long = lo;
   ann-long = la;
@@ -197,10 +204,9 @@ rows-sound kind m n from to lp lo la long fit rows = record {
 }
 
 -- lanes as long as those of a sound table, with sound rows, are a sound table
-pub list-sound : (kind : ℕ) (l m : Lanes) (n n′ : ℕ) → Sound kind l n
-    → length (m .subj) ≡ length (l .subj) → length (m .pred) ≡ length (l .pred)
-    → length (m .obj) ≡ length (l .obj) → length (m .ann) ≡ length (l .ann)
-    → n′ ≤ length (m .subj) → SoundRows kind (rowsOf m n′) → Sound kind m n′
-list-sound kind l m n n′ h ls lp lo la fit rows =
-    rows-sound kind m n′ (h .kind-from) (h .kind-to) (lp ∙ h .pred-long ∙ sym ls) (lo ∙ h .obj-long ∙ sym ls) (la ∙ h .ann-long ∙ sym ls)
-    (omega (arith, h .long, ls)) fit rows
+pub list-sound : {kind : ℕ} {l : Lanes} {n : ℕ} → Sound kind l n → (m : Lanes) (n′ : ℕ) → AsLong l m → n′ ≤ length (m .subj) → SoundRows kind (rowsOf m n′)
+    → Sound kind m n′
+list-sound {kind} h m n′ long fit rows =
+    rows-sound kind m n′ (h .kind-known)
+    (long .same-pred ∙ h .pred-long ∙ sym (long .same-subj)) (long .same-obj ∙ h .obj-long ∙ sym (long .same-subj)) (long .same-ann ∙ h .ann-long ∙ sym (long .same-subj))
+    (omega (arith, h .long, long .same-subj)) fit rows

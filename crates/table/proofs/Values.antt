@@ -6,9 +6,10 @@ use Prim.Native.Nat.{ℕ, zero, suc, _<_}
 use native.Mathlib.Omega.{arith}
 use lib.Dec.{eqb}
 use borrow.Author.Tests.{eq-eqb, eqb-true}
+use Rattle.ground.specs.Lists.{tab}
 use Rattle.annotation.specs.Algebra.{Algebra, Laws}
 use Rattle.term.proofs.Sorts.{legal-below, name-below}
-use Rattle.table.specs.Rows.{Triple, Row, triple, row, key, keyOf, joined, addRow, isTriple, valueAt, tab}
+use Rattle.table.specs.Rows.{Triple, Row, triple, row, key, keyOf, joined, addRow, isTriple, valueAt}
 use Rattle.table.specs.Sound.{LegalRow, Over, Ascending, AllLegal}
 use Rattle.table.proofs.Ordering.{Tri, less, same, more, tri, add-none, add-less, add-same, add-more, over-down}
 
@@ -141,13 +142,6 @@ value-at (suc n) f t zero h below e = value-here (f zero) (tab n (λ i. f (suc i
 value-at (suc n) f t (suc i) h below e =
     value-there (f zero) (tab n (λ i. f (suc i))) t (not-triple t (f zero) (λ z. omega (arith, below zero (omega arith))))
     ∙ value-at n (λ i. f (suc i)) t i (omega arith) (λ j q. below (suc j) (omega arith)) e
-
-pub value-missing : (n : ℕ) (f : ℕ → Row) (t : Triple) → ((i : ℕ) → i < n → key (f i) ≡ keyOf (t .s) (t .p) (t .o) → ⊥) → valueAt (tab n f) t ≡ 0
-unfolding tab
-value-missing zero f t h = value-none t
-value-missing (suc n) f t h =
-    value-there (f zero) (tab n (λ i. f (suc i))) t (not-triple t (f zero) (h zero (omega arith)))
-    ∙ value-missing n (λ i. f (suc i)) t (λ i q. h (suc i) (omega arith))
 
 -- a triple that legal rows hold is, with its annotation, a legal row
 pub held-legal : (kind : ℕ) (R : List Row) → AllLegal kind R → (t : Triple) → 0 < valueAt R t

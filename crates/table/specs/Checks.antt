@@ -1,5 +1,5 @@
 -- The table check: which table is refused, with what number and place.
-use mathlib.Core.Bool.{Bool, false, not, _&&_, _||_}
+use mathlib.Core.Bool.{Bool, false, not, _&&_}
 use mathlib.Core.List.{List, [], _∷_, _++_}
 use Prim.Native.Nat.{ℕ, zero, suc}
 use lib.ListN.{length}
@@ -7,7 +7,7 @@ use lib.Dec.{eqb, leb, ltb}
 use Rattle.term.specs.Refusal.{Check, refuse}
 use Rattle.term.specs.Term.{isLegalTerm, isName}
 use Rattle.annotation.specs.Kinds.{kindChecks, annotationChecks}
-use Rattle.table.specs.Rows.{Row, Lanes, rowAt, keyAt}
+use Rattle.table.specs.Rows.{Row, Lanes, mostRows, rowAt, keyAt}
 
 -- "8, 9, 10: sort 3; predicate not a name; annotation illegal", by number: 8 for any of the three terms comes first
 abbrev pub tripleChecks : ℕ → Row → ℕ → List Check
@@ -34,7 +34,7 @@ abbrev pub isUnfit : Lanes → Bool
 isUnfit l =
     not
     (eqb (length (l .pred)) (length (l .subj))
-    && (eqb (length (l .obj)) (length (l .subj)) && (eqb (length (l .ann)) (length (l .subj)) && leb (length (l .subj)) 1024)))
+    && (eqb (length (l .obj)) (length (l .subj)) && (eqb (length (l .ann)) (length (l .subj)) && leb (length (l .subj)) mostRows)))
 
 -- "Tables: 4, 11, 14, then row by row 8, 9, 10, 15"
 abbrev pub tableChecks : ℕ → Lanes → ℕ → List Check

@@ -2,12 +2,7 @@
 use mathlib.Core.Path.{_≡_}
 use mathlib.Core.List.{List, [], _∷_}
 use Rattle.annotation.specs.Kinds.{algebra}
-use Rattle.table.specs.Rows.{Row, row, addRow}
-
--- every statement of a list holds
-abbrev pub Every : List (Type 0) → Type 0
-Every [] = Unit {0}
-Every (s ∷ ss) = s × Every ss
+use Rattle.table.specs.Rows.{row, addRow}
 
 -- "P2 (10 type 11) with 7 and again 224: 231, never 255"
 abbrev pub P2 : Type 0

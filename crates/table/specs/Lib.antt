@@ -6,3 +6,4 @@ pub mod Adding
 pub mod Places
 pub mod Putting
 pub mod Examples
+pub mod Lent

@@ -6,7 +6,7 @@ use Prim.Native.Nat.{ℕ, _+_, _-_, _≤_, _<_}
 use lib.ListN.{length, getD, set, take, drop}
 use lib.Dec.{ltb}
 use Rattle.annotation.specs.Kinds.{algebra}
-use Rattle.table.specs.Rows.{Row, Lanes, key, rowAt, rowsOf, laid, total}
+use Rattle.table.specs.Rows.{Row, Lanes, AsLong, key, rowAt, rowsOf, laid, total}
 use Rattle.table.specs.Sound.{Sound, LegalRow}
 use Rattle.table.specs.Places.{Placed}
 use Rattle.table.specs.Adding.{rowsWith}
@@ -32,7 +32,7 @@ pub record PutAt (kind : ℕ) (r : Row) (l : Lanes) (n at : ℕ) : Type 0 where
 
 -- full: the rows with r do not fit the lanes, and nothing is changed; else the lanes hold them
 pub record Put (kind : ℕ) (r : Row) (l : Lanes) (n : ℕ) (m : Lanes) (full changed : Bool) (n′ : ℕ) : Type 0 where
-  pub as-long : length (m .subj) ≡ length (l .subj)
+  pub as-long : AsLong l m
   pub more : n ≤ n′
   pub full-is : full ≡ ltb (length (l .subj)) (length (rowsWith kind r l n))
   pub full-still : full ≡ true → changed ≡ false

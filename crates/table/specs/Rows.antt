@@ -1,9 +1,11 @@
 -- A table: four lanes and a count, the rows that they mean, and what it is to add a row.
+use mathlib.Core.Path.{_≡_}
 use mathlib.Core.Bool.{Bool, cond, _&&_}
 use mathlib.Core.List.{List, [], _∷_, _++_, map}
-use Prim.Native.Nat.{ℕ, zero, suc, _+_, _*_}
+use Prim.Native.Nat.{ℕ, _+_, _*_}
 use lib.ListN.{length, getD, drop, replicate}
 use lib.Dec.{ltb, eqb}
+use Rattle.ground.specs.Lists.{tab}
 use Rattle.annotation.specs.Algebra.{Algebra}
 
 pub record Triple : Type 0 where
@@ -25,11 +27,21 @@ abbrev pub row : ℕ → ℕ → ℕ → ℕ → Row
 row s p o a = record { s = s; p = p; o = o; a = a }
 
 -- one number for "by subject, then predicate, then object": the order of keys is the order of rows
+abbrev pub subjectWeight : ℕ
+subjectWeight = 4294967296
+
+abbrev pub predicateWeight : ℕ
+predicateWeight = 65536
+
 abbrev pub keyOf : ℕ → ℕ → ℕ → ℕ
-keyOf s p o = s * 4294967296 + p * 65536 + o
+keyOf s p o = s * subjectWeight + p * predicateWeight + o
 
 abbrev pub key : Row → ℕ
 key r = keyOf (r .s) (r .p) (r .o)
+
+-- "at most 1,024"
+abbrev pub mostRows : ℕ
+mostRows = 1024
 
 -- "four lanes .. (subject, predicate, object as 16-bit numbers, annotation as 64-bit)"
 pub record Lanes : Type 0 where
@@ -46,11 +58,6 @@ rowAt l i = row (getD (l .subj) i 0) (getD (l .pred) i 0) (getD (l .obj) i 0) (g
 
 abbrev pub keyAt : List ℕ → List ℕ → List ℕ → ℕ → ℕ
 keyAt subj pred obj i = keyOf (getD subj i 0) (getD pred i 0) (getD obj i 0)
-
--- the first n values of f
-unfoldable pub tab : {A : Type 0} → ℕ → (ℕ → A) → List A
-tab zero f = []
-tab (suc n) f = f zero ∷ tab n (λ i. f (suc i))
 
 -- "the first 'count' rows"
 abbrev pub rowsOf : Lanes → ℕ → List Row
@@ -73,6 +80,13 @@ zeroed l =
     (replicate (length (l .pred)) 0)
     (replicate (length (l .obj)) 0)
     (replicate (length (l .ann)) 0)
+
+-- the lanes m are as long as the lanes l, each as its own
+pub record AsLong (l m : Lanes) : Type 0 where
+  pub same-subj : length (m .subj) ≡ length (l .subj)
+  pub same-pred : length (m .pred) ≡ length (l .pred)
+  pub same-obj : length (m .obj) ≡ length (l .obj)
+  pub same-ann : length (m .ann) ≡ length (l .ann)
 
 -- "rows past the count are all zero"
 abbrev pub filled : List Row → Lanes → Lanes

@@ -5,8 +5,8 @@ use mathlib.Core.List.{List, [], _∷_}
 use Prim.Native.Nat.{ℕ, suc, _≤_, _<_}
 use lib.ListN.{length}
 use Rattle.term.specs.Term.{isLegalTerm, isName}
-use Rattle.annotation.specs.Kinds.{isLegal}
-use Rattle.table.specs.Rows.{Row, Lanes, rowAt, key}
+use Rattle.annotation.specs.Kinds.{isKind, isLegal}
+use Rattle.table.specs.Rows.{Row, Lanes, mostRows, rowAt, key}
 
 -- "Subject and object are of sorts 0 to 2 ..; a predicate is a name"; its annotation is legal
 pub record LegalRow (kind : ℕ) (r : Row) : Type 0 where
@@ -18,12 +18,11 @@ pub record LegalRow (kind : ℕ) (r : Row) : Type 0 where
 -- "A table is four lanes of equal length, at most 1,024 .., and a count.
 -- The first 'count' rows are legal and strictly ascending by subject, then predicate, then object."
 pub record Sound (kind : ℕ) (l : Lanes) (n : ℕ) : Type 0 where
-  pub kind-from : 1 ≤ kind
-  pub kind-to : kind ≤ 4
+  pub kind-known : isKind kind ≡ true
   pub pred-long : length (l .pred) ≡ length (l .subj)
   pub obj-long : length (l .obj) ≡ length (l .subj)
   pub ann-long : length (l .ann) ≡ length (l .subj)
-  pub long : length (l .subj) ≤ 1024
+  pub long : length (l .subj) ≤ mostRows
   pub within : n ≤ length (l .subj)
   pub legal : (i : ℕ) → i < n → LegalRow kind (rowAt l i)
   pub ascending : (i : ℕ) → suc i < n → key (rowAt l i) < key (rowAt l (suc i))

@@ -1,11 +1,12 @@
 // The refusals of a triple, of a row, of all rows, and of the lanes.
 ghost use mathlib.Core.Path.{_≡_};
+ghost use Rattle.table.specs.Lent.{before, lent};
 ghost use Rattle.term.specs.Refusal.{first};
-ghost use Rattle.table.specs.Rows.{row, lanes};
+ghost use Rattle.table.specs.Rows.{row};
 ghost use Rattle.table.specs.Checks.{tripleChecks, rowChecks, rowsChecks, isNotAbove, isUnfit};
 ghost use Rattle.table.specs.Places.{Within, RowWithin, RowsWithin};
 use crate::rows::key_at;
-use term::refusal::Verdict;
+use term::Verdict;
 
 pub const NOT_ABOVE: u8 = 15;
 
@@ -41,8 +42,8 @@ fn not_above(subj: &[u16], pred: &[u16], obj: &[u16], i: usize) -> bool
 
 // The refusal of row i, 0 where it is legal and above the one before.
 fn row_refusal(kind: u8, subj: &[u16], pred: &[u16], obj: &[u16], ann: &[u64], i: usize) -> u8
-    requires { ⌜ RowWithin (lanes (now subj) (now pred) (now obj) (now ann)) i ⌝ }
-    ensures { λ r. ⌜ r ≡ first (rowChecks kind (lanes (now (subj .entry)) (now (pred .entry)) (now (obj .entry)) (now (ann .entry))) i) .number ⌝ }
+    requires { ⌜ RowWithin (lent subj pred obj ann) i ⌝ }
+    ensures { λ r. ⌜ r ≡ first (rowChecks kind (before subj pred obj ann) i) .number ⌝ }
 {
     let number = triple_refusal(kind, subj[i], pred[i], obj[i], ann[i]);
     if number > 0 {
@@ -63,8 +64,8 @@ pub fn rows_verdict(
     ann: &[u64],
     count: usize,
 ) -> Verdict
-    requires { ⌜ RowsWithin (lanes (now subj) (now pred) (now obj) (now ann)) count ⌝ }
-    ensures { λ r. ⌜ r ≡ first (rowsChecks kind (lanes (now (subj .entry)) (now (pred .entry)) (now (obj .entry)) (now (ann .entry))) 0 count) ⌝ }
+    requires { ⌜ RowsWithin (lent subj pred obj ann) count ⌝ }
+    ensures { λ r. ⌜ r ≡ first (rowsChecks kind (before subj pred obj ann) 0 count) ⌝ }
 {
     let mut i = 0;
     while i < count {
@@ -82,7 +83,7 @@ pub fn rows_verdict(
 
 // Whether the lanes are unequal or too long.
 pub fn unfit(subj: &[u16], pred: &[u16], obj: &[u16], ann: &[u64]) -> bool
-    ensures { λ r. ⌜ r ≡ isUnfit (lanes (now (subj .entry)) (now (pred .entry)) (now (obj .entry)) (now (ann .entry))) ⌝ }
+    ensures { λ r. ⌜ r ≡ isUnfit (before subj pred obj ann) ⌝ }
 {
     if pred.len() != subj.len() {
         return true;

@@ -1,19 +1,32 @@
 // A table: rows in four lent lanes and a count, sorted by subject, predicate, object.
 // Refused here: a kind (4), lanes that do not fit (11), no room (12), a count past the lanes (14), and rows (8, 9, 10, 15).
 ghost use mathlib.Core.Path.{_≡_};
+ghost use Rattle.table.specs.Lent.{before, after};
 ghost use mathlib.Core.Bool.{cond};
 ghost use Rattle.term.specs.Refusal.{first};
-ghost use Rattle.table.specs.Rows.{row, lanes};
+ghost use Rattle.table.specs.Rows.{row};
 ghost use Rattle.table.specs.Checks.{tableChecks};
 ghost use Rattle.table.specs.Adding.{Adding};
 
-pub mod judge;
-pub mod lane;
-pub mod places;
-pub mod put;
-pub mod rows;
+mod judge;
+mod lane;
+mod places;
+mod put;
+mod rows;
 
-use term::refusal::Verdict;
+// What reading, closing and running call below the public calls.
+pub use judge::MOST_ROWS;
+pub use judge::unfit;
+pub use lane::zero_u16;
+pub use lane::zero_u64;
+pub use places::find;
+pub use put::PutDone;
+pub use put::put_found;
+pub use put::wipe;
+pub use rows::PREDICATE_WEIGHT;
+pub use rows::SUBJECT_WEIGHT;
+pub use rows::key_of;
+use term::Verdict;
 
 pub const LANES_UNFIT: u8 = 11;
 
@@ -36,7 +49,7 @@ pub fn check(
     ann: &[u64],
     count: usize,
 ) -> Verdict
-    ensures { λ r. ⌜ r ≡ first (tableChecks kind (lanes (now (subj .entry)) (now (pred .entry)) (now (obj .entry)) (now (ann .entry))) count) ⌝ }
+    ensures { λ r. ⌜ r ≡ first (tableChecks kind (before subj pred obj ann) count) ⌝ }
 {
     if annotation::kind_refusal(kind) > 0 {
         return Verdict {
@@ -72,7 +85,7 @@ pub fn add(
     o: u16,
     a: u64,
 ) -> Added
-    ensures { λ r. ⌜ Adding kind (row s p o a) (lanes (now (subj .entry)) (now (pred .entry)) (now (obj .entry)) (now (ann .entry))) count (lanes (now (subj .exit)) (now (pred .exit)) (now (obj .exit)) (now (ann .exit))) (r .number) (r .place) (r .count) ⌝ }
+    ensures { λ r. ⌜ Adding kind (row s p o a) (before subj pred obj ann) count (after subj pred obj ann) (r .number) (r .place) (r .count) ⌝ }
 {
     let table = check(kind, subj, pred, obj, ann, count);
     if table.number > 0 {

@@ -1,10 +1,6 @@
 // Where a key stands in rows that ascend: by walking, for adding, and by halving, for finding.
-ghost use mathlib.Core.Path.{_≡_};
-ghost use Rattle.table.specs.Rows.{lanes, rowsOf, valueAt, triple};
-ghost use Rattle.table.specs.Sound.{Sound};
 ghost use Rattle.table.specs.Places.{Ordered, Placed, IsPlace, Stands, Between, Halving, Halved};
 use crate::rows::key_at;
-use crate::rows::key_of;
 
 // The first row whose key is not below `key`, found by walking from the front.
 pub fn place(subj: &[u16], pred: &[u16], obj: &[u16], count: usize, key: u64) -> usize
@@ -136,27 +132,4 @@ pub fn find_near(
         return hint;
     }
     find(subj, pred, obj, count, key)
-}
-
-// The annotation of a triple, 0 where no row holds it.
-pub fn annotation_of(
-    kind: u8,
-    subj: &[u16],
-    pred: &[u16],
-    obj: &[u16],
-    ann: &[u64],
-    count: usize,
-    s: u16,
-    p: u16,
-    o: u16,
-) -> u64
-    requires { ⌜ Sound kind (lanes (now subj) (now pred) (now obj) (now ann)) count ⌝ }
-    ensures { λ r. ⌜ r ≡ valueAt (rowsOf (lanes (now (subj .entry)) (now (pred .entry)) (now (obj .entry)) (now (ann .entry))) count) (triple s p o) ⌝ }
-{
-    let key = key_of(s, p, o);
-    let at = find(subj, pred, obj, count, key);
-    if stands(subj, pred, obj, count, at, key) {
-        return ann[at];
-    }
-    0
 }

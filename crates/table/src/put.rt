@@ -1,8 +1,9 @@
 // Putting a legal row into a sound table.
 ghost use mathlib.Core.Path.{_≡_};
+ghost use Rattle.table.specs.Lent.{before, after, lent};
 ghost use Prim.Native.Nat.{_<_};
 ghost use lib.ListN.{length};
-ghost use Rattle.table.specs.Rows.{row, lanes, zeroed};
+ghost use Rattle.table.specs.Rows.{row, zeroed};
 ghost use Rattle.table.specs.Putting.{JoinedAt, PutInto, PutAt, Put};
 use crate::lane::open_u16;
 use crate::lane::open_u64;
@@ -15,7 +16,7 @@ use crate::rows::key_of;
 
 // All four lanes zeroed.
 pub fn wipe(subj: &mut [u16], pred: &mut [u16], obj: &mut [u16], ann: &mut [u64])
-    ensures { λ _. ⌜ lanes (now (subj .exit)) (now (pred .exit)) (now (obj .exit)) (now (ann .exit)) ≡ zeroed (lanes (now (subj .entry)) (now (pred .entry)) (now (obj .entry)) (now (ann .entry))) ⌝ }
+    ensures { λ _. ⌜ after subj pred obj ann ≡ zeroed (before subj pred obj ann) ⌝ }
 {
     zero_u16(subj);
     zero_u16(pred);
@@ -56,8 +57,8 @@ fn put_at(
     o: u16,
     a: u64,
 ) -> PutDone
-    requires { ⌜ PutAt kind (row s p o a) (lanes (now subj) (now pred) (now obj) (now ann)) count at ⌝ }
-    ensures { λ r. ⌜ Put kind (row s p o a) (lanes (now (subj .entry)) (now (pred .entry)) (now (obj .entry)) (now (ann .entry))) count (lanes (now (subj .exit)) (now (pred .exit)) (now (obj .exit)) (now (ann .exit))) (r .full) (r .changed) (r .count) ⌝ }
+    requires { ⌜ PutAt kind (row s p o a) (lent subj pred obj ann) count at ⌝ }
+    ensures { λ r. ⌜ Put kind (row s p o a) (before subj pred obj ann) count (after subj pred obj ann) (r .full) (r .changed) (r .count) ⌝ }
 {
     let key = key_of(s, p, o);
     if stands(subj, pred, obj, count, at, key) {
@@ -103,8 +104,8 @@ pub fn put(
     o: u16,
     a: u64,
 ) -> PutDone
-    requires { ⌜ PutInto kind (row s p o a) (lanes (now subj) (now pred) (now obj) (now ann)) count ⌝ }
-    ensures { λ r. ⌜ Put kind (row s p o a) (lanes (now (subj .entry)) (now (pred .entry)) (now (obj .entry)) (now (ann .entry))) count (lanes (now (subj .exit)) (now (pred .exit)) (now (obj .exit)) (now (ann .exit))) (r .full) (r .changed) (r .count) ⌝ }
+    requires { ⌜ PutInto kind (row s p o a) (lent subj pred obj ann) count ⌝ }
+    ensures { λ r. ⌜ Put kind (row s p o a) (before subj pred obj ann) count (after subj pred obj ann) (r .full) (r .changed) (r .count) ⌝ }
 {
     let at = place(subj, pred, obj, count, key_of(s, p, o));
     put_at(kind, subj, pred, obj, ann, count, at, s, p, o, a)
@@ -124,8 +125,8 @@ pub fn put_found(
     a: u64,
     hint: usize,
 ) -> PutDone
-    requires { ⌜ PutInto kind (row s p o a) (lanes (now subj) (now pred) (now obj) (now ann)) count ⌝ }
-    ensures { λ r. ⌜ Put kind (row s p o a) (lanes (now (subj .entry)) (now (pred .entry)) (now (obj .entry)) (now (ann .entry))) count (lanes (now (subj .exit)) (now (pred .exit)) (now (obj .exit)) (now (ann .exit))) (r .full) (r .changed) (r .count) ⌝ }
+    requires { ⌜ PutInto kind (row s p o a) (lent subj pred obj ann) count ⌝ }
+    ensures { λ r. ⌜ Put kind (row s p o a) (before subj pred obj ann) count (after subj pred obj ann) (r .full) (r .changed) (r .count) ⌝ }
 {
     let at = find_near(subj, pred, obj, count, key_of(s, p, o), hint);
     put_at(kind, subj, pred, obj, ann, count, at, s, p, o, a)

@@ -3,10 +3,15 @@ ghost use mathlib.Core.Path.{_≡_};
 ghost use Rattle.table.specs.Rows.{keyOf, keyAt};
 ghost use Rattle.table.specs.Places.{Within};
 
+// How much more a subject and a predicate count than an object.
+pub const SUBJECT_WEIGHT: u64 = 4294967296;
+
+pub const PREDICATE_WEIGHT: u64 = 65536;
+
 pub fn key_of(s: u16, p: u16, o: u16) -> u64
     ensures { λ r. ⌜ r ≡ keyOf s p o ⌝ }
 {
-    (s as u64) * 4294967296 + (p as u64) * 65536 + (o as u64)
+    (s as u64) * SUBJECT_WEIGHT + (p as u64) * PREDICATE_WEIGHT + (o as u64)
 }
 
 pub fn key_at(subj: &[u16], pred: &[u16], obj: &[u16], i: usize) -> u64

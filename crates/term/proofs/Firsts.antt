@@ -30,6 +30,12 @@ first-stops (c ∷ cs) ds h = go (c .when) (first-stops cs ds) h
     go true ih q = refl
     go false ih q = ih q
 
+-- what follows the same checks and gives the same, gives the same with them
+pub first-same : (cs ds es : List Check) → first ds ≡ first es → first (cs ++ ds) ≡ first (cs ++ es)
+unfolding first
+first-same [] ds es e = e
+first-same (c ∷ cs) ds es e = ap (λ (v : Verdict). cond (c .when) (verdict (c .number) (c .place)) v) (first-same cs ds es e)
+
 -- no check has the number 0, which means done
 abbrev pub Numbered : List Check → Type 0
 Numbered [] = Unit {0}
@@ -63,6 +69,10 @@ abbrev pub AllAt : ℕ → List Check → Type 0
 AllAt p [] = Unit {0}
 AllAt p (c ∷ cs) = (c .place ≡ p) × AllAt p cs
 
+pub at-append : (p : ℕ) (cs ds : List Check) → AllAt p cs → AllAt p ds → AllAt p (cs ++ ds)
+at-append p [] ds h k = k
+at-append p (c ∷ cs) ds h k = (h .0, at-append p cs ds (h .1) k)
+
 pub first-place : (p : ℕ) (cs : List Check) → AllAt p cs → 0 < first cs .number → first cs ≡ verdict (first cs .number) p
 unfolding first
 first-place p [] h e = absurd (omega arith)
@@ -83,6 +93,11 @@ pub first-split : (n p : ℕ) (w : Bool) (cs : List Check) → 0 < n → first (
 unfolding first
 first-split n p w cs h e = first-all w n p (first cs) h e
 
+-- the same of the number alone
+pub number-split : (w : Bool) (n p : ℕ) (cs : List Check) → 0 < n → first (refuse w n p ∷ cs) .number ≡ 0 → (w ≡ false) × (first cs .number ≡ 0)
+unfolding first
+number-split w n p cs h e = caught-or w (refuse w n p) (first cs) h e
+
 -- checks that pass in front of others pass by themselves
 pub first-left : (cs ds : List Check) → first (cs ++ ds) .number ≡ 0 → first cs .number ≡ 0
 first-left cs ds e = go (first cs .number) refl
@@ -90,6 +105,14 @@ first-left cs ds e = go (first cs .number) refl
     go : (k : ℕ) → first cs .number ≡ k → first cs .number ≡ 0
     go zero q = q
     go (suc k) q = absurd (let s = first-stops cs ds (omega arith) in omega (arith, ap (λ (v : Verdict). v .number) s))
+
+-- checks that give a number give one behind others too
+pub first-positive : (cs ds : List Check) → Numbered cs → 0 < first ds .number → 0 < first (cs ++ ds) .number
+first-positive cs ds n h = by (first cs .number) refl
+  where
+    by : (k : ℕ) → first cs .number ≡ k → 0 < first (cs ++ ds) .number
+    by zero e = rw (first-clear cs ds n e) h
+    by (suc k) e = rw (first-stops cs ds (omega arith), e) (omega arith)
 
 -- the number alone: it stops at checks that give one, and passes those that give none
 pub number-stops : (n : ℕ) (cs ds : List Check) → n ≡ first cs .number → 0 < n → n ≡ first (cs ++ ds) .number
@@ -105,6 +128,12 @@ Alike [] (d ∷ ds) = ⊥
 Alike (c ∷ cs) [] = ⊥
 Alike (c ∷ cs) (d ∷ ds) = ((c .when ≡ d .when) × (c .number ≡ d .number)) × Alike cs ds
 
+pub alike-append : (cs ds cs′ ds′ : List Check) → Alike cs ds → Alike cs′ ds′ → Alike (cs ++ cs′) (ds ++ ds′)
+alike-append [] [] cs′ ds′ h k = k
+alike-append [] (d ∷ ds) cs′ ds′ h k = absurd h
+alike-append (c ∷ cs) [] cs′ ds′ h k = absurd h
+alike-append (c ∷ cs) (d ∷ ds) cs′ ds′ h k = (h .0, alike-append cs ds cs′ ds′ (h .1) k)
+
 pub number-alike : (cs ds : List Check) → Alike cs ds → first cs .number ≡ first ds .number
 unfolding first
 number-alike [] [] h = refl
@@ -116,7 +145,3 @@ number-alike (c ∷ cs) (d ∷ ds) h = rw (← h .0 .0) (go (c .when) (number-al
         → cond w (verdict (c .number) (c .place)) (first cs) .number ≡ cond w (verdict (d .number) (d .place)) (first ds) .number
     go true e = h .0 .1
     go false e = e
-
-pub at-append : (p : ℕ) (cs ds : List Check) → AllAt p cs → AllAt p ds → AllAt p (cs ++ ds)
-at-append p [] ds h k = k
-at-append p (c ∷ cs) ds h k = (h .0, at-append p cs ds (h .1) k)

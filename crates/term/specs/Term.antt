@@ -6,11 +6,14 @@ use lib.Dec.{eqb, leb}
 use Rattle.term.specs.Refusal.{Check, refuse}
 
 -- "A term is a 16-bit number. Its top two bits are its sort"
+abbrev pub perSort : ℕ
+perSort = 16384
+
 abbrev pub sortOf : ℕ → ℕ
-sortOf t = t / 16384
+sortOf t = t / perSort
 
 abbrev pub numberOf : ℕ → ℕ
-numberOf t = t % 16384
+numberOf t = t % perSort
 
 -- "0 a name, 1 a blank, 2 a literal, 3 never legal"; "Subject and object are of sorts 0 to 2", "a predicate is a name"
 abbrev pub isLegalTerm : ℕ → Bool

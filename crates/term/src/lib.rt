@@ -4,7 +4,9 @@ ghost use mathlib.Core.Path.{_≡_};
 ghost use Rattle.term.specs.Term.{sortOf, numberOf, termChecks, predicateChecks};
 ghost use Rattle.term.specs.Refusal.{first};
 
-pub mod refusal;
+mod refusal;
+
+pub use refusal::Verdict;
 
 // The names with a meaning in the rules.
 pub const SP: u16 = 0;
@@ -27,6 +29,11 @@ pub const BLANK: u16 = 1;
 
 pub const LITERAL: u16 = 2;
 
+// A term's number is its lower 14 bits.
+const NUMBER_BITS: u16 = 14;
+
+const NUMBER_MASK: u16 = 16383;
+
 pub const ILLEGAL_TERM: u8 = 8;
 
 pub const NOT_A_NAME: u8 = 9;
@@ -34,13 +41,13 @@ pub const NOT_A_NAME: u8 = 9;
 pub fn sort_of(term: u16) -> u16
     ensures { λ r. ⌜ r ≡ sortOf term ⌝ }
 {
-    term >> 14
+    term >> NUMBER_BITS
 }
 
 pub fn number_of(term: u16) -> u16
     ensures { λ r. ⌜ r ≡ numberOf term ⌝ }
 {
-    term & 16383
+    term & NUMBER_MASK
 }
 
 // The refusal of a term as subject or object, 0 where it is legal.

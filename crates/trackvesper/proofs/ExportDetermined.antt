@@ -11,7 +11,7 @@ use Rattle.rhodf.specs.Closure.{ClosureOf}
 use Rattle.rhodf.proofs.Exists.{closure-exists}
 use Rattle.book.specs.Writing.{bookLength}
 use Rattle.book.proofs.ReadsSound.{reading-sound}
-use Rattle.trackvesper.specs.ClosedBook.{blank, said, ClosedBook}
+use Rattle.trackvesper.specs.ClosedBook.{freshLanes, said, ClosedBook}
 
 module _ (b out x y : List ℕ) (r s : ℕ) (p : ClosedBook b out x r) (q : ClosedBook b out y s) where
   from-unread : 0 < said b .verdict-of .number → (r ≡ s) × (x ≡ y)
@@ -35,7 +35,7 @@ module _ (b out x y : List ℕ) (r s : ℕ) (p : ClosedBook b out x r) (q : Clos
   from-read (yes h) = from-unread h
   from-read (no h) =
       let z : said b .verdict-of .number ≡ 0 = omega arith in
-      let c = closure-exists (said b .kind) (said b .rows) (reading-sound b blank .sound z) in
+      let c = closure-exists (said b .kind) (said b .rows) (reading-sound b freshLanes .sound z) in
       from-room z (c .0) (c .1) (decLt 1024 (length (c .0)))
 
   pub export-determined : (r ≡ s) × (x ≡ y)

@@ -7,15 +7,17 @@ use native.Mathlib.Decide.{decLt}
 use native.Mathlib.Omega.{arith}
 use lib.ListN.{length, drop, replicate}
 use lib.Dec.{eqb, ltb}
-use borrow.Author.Tests.{lt-ltb, le-ltb, eq-eqb, ne-eqb, le-leb, eqb-false}
+use borrow.Author.Tests.{lt-ltb, le-ltb, eq-eqb, ne-eqb, eqb-false}
 use Rattle.term.specs.Refusal.{refuse, verdict, done, first}
 use Rattle.term.specs.declared.refusal.Verdict.{Verdict}
 use Rattle.term.proofs.Firsts.{first-passes, first-holds, first-none, first-clear}
+use Rattle.annotation.specs.Kinds.{isKind}
+use Rattle.annotation.proofs.Judged.{kind-passes}
 use Rattle.table.specs.Rows.{Row, Lanes, rowsOf, zeroed, filled}
 use Rattle.table.specs.Sound.{Sound, SoundRows}
-use Rattle.table.proofs.Tab.{filled-rows, filled-lane}
 use Rattle.table.proofs.Judging.{table-numbered}
 use Rattle.table.proofs.Soundness.{rows-sound, sound-passes}
+use Rattle.table.proofs.Laid.{filled-rows, filled-lane}
 use Rattle.rhodf.specs.Rules.{Rule}
 use Rattle.rhodf.specs.Closure.{ClosureOf}
 use Rattle.rhodf.proofs.Exists.{closure-exists}
@@ -24,7 +26,7 @@ use Rattle.book.specs.Reading.{Read, reading, lendChecks, Reading}
 use Rattle.book.specs.Writing.{bookLength, writeChecks, writeDone, Writing}
 use Rattle.book.proofs.ReadsSound.{LegalHead, Reads, reading-sound}
 use Rattle.closing.specs.Closing.{Closing}
-use Rattle.trackvesper.specs.ClosedBook.{blank, said, packed, ClosedBook}
+use Rattle.trackvesper.specs.ClosedBook.{freshLanes, said, aNumber, packed, ClosedBook}
 
 number-of : {v w : Verdict} → v ≡ w → v .number ≡ w .number
 number-of e = ap (λ (v : Verdict). v .number) e
@@ -33,7 +35,7 @@ place-of : {v w : Verdict} → v ≡ w → v .place ≡ w .place
 place-of e = ap (λ (v : Verdict). v .place) e
 
 -- sound rows in 1,024 lanes of zeros
-module _ (kind : ℕ) (from : 1 ≤ kind) (to : kind ≤ 4) (l : Lanes)
+module _ (kind : ℕ) (known : isKind kind ≡ true) (l : Lanes)
     (ls : length (l .subj) ≡ 1024) (lp : length (l .pred) ≡ 1024) (lo : length (l .obj) ≡ 1024) (la : length (l .ann) ≡ 1024)
     (R : List Row) (s : SoundRows kind R) (fits : length R ≤ 1024) where
   room-rows : rowsOf (filled R l) (length R) ≡ R
@@ -56,10 +58,10 @@ module _ (kind : ℕ) (from : 1 ≤ kind) (to : kind ≤ 4) (l : Lanes)
 
   room-sound : Sound kind (filled R l) (length R)
   room-sound =
-      rows-sound kind (filled R l) (length R) from to (room-pred ∙ sym room-subj) (room-obj ∙ sym room-subj) (room-ann ∙ sym room-subj)
+      rows-sound kind (filled R l) (length R) known (room-pred ∙ sym room-subj) (room-obj ∙ sym room-subj) (room-ann ∙ sym room-subj)
       (omega (arith, room-subj)) (omega (arith, room-subj)) (rw room-rows s)
 
-module _ (b out : List ℕ) (m : Lanes) (number place kind base count : ℕ) (read : Reading b blank m number place kind base count) where
+module _ (b out : List ℕ) (m : Lanes) (number place kind base count : ℕ) (read : Reading b freshLanes m number place kind base count) where
   abbrev what : Read
   what = said b
 
@@ -69,8 +71,8 @@ module _ (b out : List ℕ) (m : Lanes) (number place kind base count : ℕ) (re
   is-place : place ≡ what .verdict-of .place
   is-place = place-of (read .verdict-is)
 
-  pub place-small : place < 4294967296
-  place-small = omega (arith, reading-sound b blank .placed, is-place)
+  pub place-small : place < aNumber
+  place-small = omega (arith, reading-sound b freshLanes .placed, is-place)
 
   pub export-unread : 0 < number → ClosedBook b out out (packed number place)
   export-unread h = record {
@@ -85,36 +87,36 @@ module _ (b out : List ℕ) (m : Lanes) (number place kind base count : ℕ) (re
     zero-number = omega (arith, is-number)
 
     head : LegalHead (what .kind) (what .base)
-    head = reading-sound b blank .head zero-number
+    head = reading-sound b freshLanes .head zero-number
 
     rows-good : SoundRows (what .kind) (what .rows)
-    rows-good = reading-sound b blank .sound zero-number
+    rows-good = reading-sound b freshLanes .sound zero-number
 
     rows-fit : length (what .rows) ≤ 1024
-    rows-fit = reading-sound b blank .fits zero-number
+    rows-fit = reading-sound b freshLanes .fits zero-number
 
-    lanes-read : m ≡ filled (what .rows) blank
+    lanes-read : m ≡ filled (what .rows) freshLanes
     lanes-read =
-        let t : eqb (first (lendChecks b blank) .number) 0 ≡ true = lent (eqb (first (lendChecks b blank) .number) 0) refl in
-        read .lanes-are ∙ ap (λ (x : Bool). cond x (filled (what .rows) blank) blank) t
+        let t : eqb (first (lendChecks b freshLanes) .number) 0 ≡ true = lent (eqb (first (lendChecks b freshLanes) .number) 0) refl in
+        read .lanes-are ∙ ap (λ (x : Bool). cond x (filled (what .rows) freshLanes) freshLanes) t
       where
-        lent : (t : Bool) → eqb (first (lendChecks b blank) .number) 0 ≡ t → eqb (first (lendChecks b blank) .number) 0 ≡ true
+        lent : (t : Bool) → eqb (first (lendChecks b freshLanes) .number) 0 ≡ t → eqb (first (lendChecks b freshLanes) .number) 0 ≡ true
         lent true e = e
-        lent false e = absurd (eqb-false (first (lendChecks b blank) .number) 0 e (rw e at zero-number))
+        lent false e = absurd (eqb-false (first (lendChecks b freshLanes) .number) 0 e (rw e at zero-number))
 
     count-read : count ≡ length (what .rows)
     count-read = read .count-is
 
     same-rows : rowsOf m count ≡ what .rows
-    same-rows = rw (lanes-read, count-read) (room-rows (what .kind) (head .kind-from) (head .kind-to) blank refl refl refl refl (what .rows) rows-good rows-fit)
+    same-rows = rw (lanes-read, count-read) (room-rows (what .kind) (head .kind-known) freshLanes refl refl refl refl (what .rows) rows-good rows-fit)
 
     read-sound : Sound kind m count
     read-sound =
         rw (lanes-read, count-read, read .kind-is)
-        (room-sound (what .kind) (head .kind-from) (head .kind-to) blank refl refl refl refl (what .rows) rows-good rows-fit)
+        (room-sound (what .kind) (head .kind-known) freshLanes refl refl refl refl (what .rows) rows-good rows-fit)
 
     long-subj : length (m .subj) ≡ 1024
-    long-subj = rw lanes-read (room-subj (what .kind) (head .kind-from) (head .kind-to) blank refl refl refl refl (what .rows) rows-good rows-fit)
+    long-subj = rw lanes-read (room-subj (what .kind) (head .kind-known) freshLanes refl refl refl refl (what .rows) rows-good rows-fit)
 
     -- a closure of what the book says is a closure of the table read
     of-table : (closed : List Row) → ClosureOf (what .kind) Rule (what .rows) closed → ClosureOf kind Rule (rowsOf m count) closed
@@ -122,13 +124,13 @@ module _ (b out : List ℕ) (m : Lanes) (number place kind base count : ℕ) (re
 
     module _ (m₂ : Lanes) (n₂ p₂ c₂ : ℕ) (close : Closing kind m count m₂ n₂ p₂ c₂) where
       -- one of the two cases is there, since the closure is
-      pub close-place : p₂ < 4294967296
+      pub close-place : p₂ < aNumber
       close-place = go (closure-exists (what .kind) (what .rows) rows-good)
         where
-          go : (closed : List Row) × ClosureOf (what .kind) Rule (what .rows) closed → p₂ < 4294967296
+          go : (closed : List Row) × ClosureOf (what .kind) Rule (what .rows) closed → p₂ < aNumber
           go c = pick (decLt 1024 (length (c .0)))
             where
-              pick : Dec (1024 < length (c .0)) → p₂ < 4294967296
+              pick : Dec (1024 < length (c .0)) → p₂ < aNumber
               pick (yes q) = omega (arith, place-of (close .no-room read-sound (c .0) (of-table (c .0) (c .1)) (rw long-subj q) .0))
               pick (no q) = omega (arith, place-of (close .fits read-sound (c .0) (of-table (c .0) (c .1)) (rw long-subj (omega arith)) .0))
 
@@ -162,17 +164,17 @@ module _ (b out : List ℕ) (m : Lanes) (number place kind base count : ℕ) (re
           closed-sound : Sound kind m₂ c₂
           closed-sound =
               rw (fit-case .1, fit-case .2, read .kind-is)
-              (room-sound (what .kind) (head .kind-from) (head .kind-to) m long-subj long-pred long-obj long-ann closed (c .sound) q)
+              (room-sound (what .kind) (head .kind-known) m long-subj long-pred long-obj long-ann closed (c .sound) q)
 
           closed-rows : rowsOf m₂ c₂ ≡ closed
           closed-rows =
               rw (fit-case .1, fit-case .2)
-              (room-rows (what .kind) (head .kind-from) (head .kind-to) m long-subj long-pred long-obj long-ann closed (c .sound) q)
+              (room-rows (what .kind) (head .kind-known) m long-subj long-pred long-obj long-ann closed (c .sound) q)
 
           -- the writer's checks pass, all but the last
           to-space : first (writeChecks kind base m₂ c₂ (length out)) ≡ first (refuse (ltb (length out) (bookLength c₂)) 12 0 ∷ [])
           to-space =
-              first-passes _ 4 0 _ (rw (le-leb 1 kind (closed-sound .kind-from), le-leb kind 4 (closed-sound .kind-to)) refl)
+              kind-passes kind 0 _ (closed-sound .kind-known)
               ∙ first-passes _ 5 0 _ (rw (read .kind-is, read .base-is, head .year) refl)
               ∙ first-clear _ _ (table-numbered kind m₂ c₂) (number-of (sound-passes kind m₂ c₂ closed-sound))
 
@@ -200,10 +202,10 @@ module _ (b out : List ℕ) (m : Lanes) (number place kind base count : ℕ) (re
           is-write = write .verdict-is
 
           -- refused: then it is for want of space
-          pub write-place : p₃ < 4294967296
+          pub write-place : p₃ < aNumber
           write-place = in-closure (λ closed c q. pick closed c q (decLt (length out) (bookLength (length closed))))
             where
-              pick : (closed : List Row) (c : ClosureOf (what .kind) Rule (what .rows) closed) → length closed ≤ 1024 → Dec (length out < bookLength (length closed)) → p₃ < 4294967296
+              pick : (closed : List Row) (c : ClosureOf (what .kind) Rule (what .rows) closed) → length closed ≤ 1024 → Dec (length out < bookLength (length closed)) → p₃ < aNumber
               pick closed c q (yes h) = omega (arith, place-of (is-write ∙ too-short closed c q h))
               pick closed c q (no h) = omega (arith, place-of (is-write ∙ long-enough closed c q (omega arith)))
 
@@ -224,7 +226,7 @@ module _ (b out : List ℕ) (m : Lanes) (number place kind base count : ℕ) (re
             is-size : size ≡ bookLength c₂
             is-size = write .length-is ∙ rw write-clear refl
 
-            pub size-small : size < 4294967296
+            pub size-small : size < aNumber
             size-small = in-closure (λ closed c q. omega (arith, is-size, fit-case closed c q .2))
 
             pub export-written : ClosedBook b out out′ (packed 0 size)

@@ -5,7 +5,7 @@ use Prim.Native.Nat.{ℕ, _≤_}
 use native.Mathlib.Omega.{arith}
 use lib.ListN.{length, drop, length-append, length-map}
 use Rattle.question.specs.declared.records.StepRecord.{StepRecord}
-use Rattle.question.specs.Part.{Part}
+use Rattle.parts.specs.Part.{Part}
 use Rattle.question.specs.Steps.{Step}
 use Rattle.question.specs.Records.{recordOf}
 use Rattle.question.specs.Compiling.{Final, steps, refused, compiling}

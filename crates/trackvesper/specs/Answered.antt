@@ -8,7 +8,7 @@ use Rattle.annotation.specs.Kinds.{algebra}
 use Rattle.table.specs.Rows.{Lanes, rowsOf}
 use Rattle.table.specs.Sound.{Sound}
 use Rattle.question.specs.declared.records.StepRecord.{StepRecord}
-use Rattle.question.specs.Part.{Part, parts}
+use Rattle.parts.specs.Part.{Part, parts}
 use Rattle.machine.specs.Bounded.{Outcome}
 use Rattle.machine.specs.Running.{answerRoom, isUnfitRoom, running, Ran}
 use Rattle.meaning.specs.AsMeant.{IsQuestion, AsMeant}

@@ -11,16 +11,19 @@ use Rattle.book.specs.Reading.{Read, reading}
 use Rattle.book.specs.Writing.{bookLength}
 
 -- room for 1,024 rows
-abbrev pub blank : Lanes
-blank = lanes (replicate 1024 0) (replicate 1024 0) (replicate 1024 0) (replicate 1024 0)
+abbrev pub freshLanes : Lanes
+freshLanes = lanes (replicate 1024 0) (replicate 1024 0) (replicate 1024 0) (replicate 1024 0)
 
 -- what the book says
 abbrev pub said : List ℕ → Read
-said b = reading b blank
+said b = reading b freshLanes
 
 -- "number x 2^32 + length written (or place)"
+abbrev pub aNumber : ℕ
+aNumber = 4294967296
+
 abbrev pub packed : ℕ → ℕ → ℕ
-packed number rest = number * 4294967296 + rest
+packed number rest = number * aNumber + rest
 
 -- "one exported call takes a book and writes the closed book"; "on refusal its output bytes are untouched"
 pub record ClosedBook (b out out′ : List ℕ) (r : ℕ) : Type 0 where

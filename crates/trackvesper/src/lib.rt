@@ -2,29 +2,43 @@
 // The calls below take anything and refuse by number and place; the README has the table of numbers.
 ghost use mathlib.Core.Path.{_≡_};
 ghost use Prim.Native.Nat.{_<_};
-ghost use Rattle.table.specs.Rows.{lanes};
-ghost use Rattle.trackvesper.specs.ClosedBook.{blank, packed, ClosedBook};
+ghost use Rattle.table.specs.Lent.{lent};
+ghost use Rattle.trackvesper.specs.ClosedBook.{freshLanes, aNumber, packed, ClosedBook};
 
+// A number of two bytes, as every length is written.
+pub use field::two;
 // Tables: the check, and adding a triple.
+pub use table::Added;
 pub use table::add;
 pub use table::check;
+pub use term::Verdict;
 // Books: reading into a table, and writing one.
+pub use book::CUT;
+pub use book::ReadDone;
+pub use book::WriteDone;
 pub use book::read;
 pub use book::write;
 // What follows from a table.
+pub use closing::CloseDone;
 pub use closing::close;
 // Questions: checked and compiled into lent step records, and run from them; and both for whoever holds the records by value.
+pub use machine::RunDone;
+pub use question::StepRecord;
+pub use steplist::Filled;
 pub use steplist::compile;
 pub use steplist::compile_array;
 pub use steplist::run;
 pub use steplist::run_array;
 
+// What a number counts in a word that holds a length or place beside it.
+const A_NUMBER: u64 = 4294967296;
+
 // A number and a length or place in one word.
 fn pack(number: u8, rest: usize) -> u64
-    requires { ⌜ rest < 4294967296 ⌝ }
+    requires { ⌜ rest < aNumber ⌝ }
     ensures { λ r. ⌜ r ≡ packed number rest ⌝ }
 {
-    (number as u64) * 4294967296 + (rest as u64)
+    (number as u64) * A_NUMBER + (rest as u64)
 }
 
 // Reads the book into lanes of zeros, closes them, and writes them out.
@@ -36,7 +50,7 @@ fn close_into(
     obj: &mut [u16],
     ann: &mut [u64],
 ) -> u64
-    requires { ⌜ lanes (now subj) (now pred) (now obj) (now ann) ≡ blank ⌝ }
+    requires { ⌜ lent subj pred obj ann ≡ freshLanes ⌝ }
     ensures { λ r. ⌜ ClosedBook (now (book .entry)) (now (out .entry)) (now (out .exit)) r ⌝ }
 {
     let head = read(book, subj, pred, obj, ann);

@@ -2,7 +2,8 @@
 ghost use mathlib.Core.Path.{_≡_};
 ghost use lib.ListN.{length};
 ghost use Rattle.term.specs.Refusal.{verdict, first};
-ghost use Rattle.table.specs.Rows.{row, lanes};
+ghost use Rattle.table.specs.Rows.{row};
+ghost use Rattle.table.specs.Lent.{before, after};
 ghost use Rattle.table.specs.Checks.{tableChecks};
 ghost use Rattle.table.specs.Adding.{Adding};
 ghost use Rattle.book.specs.Reading.{Reading};
@@ -11,9 +12,9 @@ ghost use Rattle.closing.specs.Closing.{Closing};
 ghost use Rattle.machine.specs.Running.{running, Ran};
 ghost use Rattle.steplist.specs.Filling.{Filling};
 ghost use Rattle.trackvesper.specs.ClosedBook.{ClosedBook};
-use machine::RunDone;
-use question::records::StepRecord;
-use steplist::Filled;
+use trackvesper::Filled;
+use trackvesper::RunDone;
+use trackvesper::StepRecord;
 
 #[no_mangle]
 pub extern "C" fn trial_check(
@@ -25,9 +26,9 @@ pub extern "C" fn trial_check(
     count: usize,
     place: &mut usize,
 ) -> u8
-    ensures { λ r. ⌜ verdict r (now (place .exit)) ≡ first (tableChecks kind (lanes (now (subj .entry)) (now (pred .entry)) (now (obj .entry)) (now (ann .entry))) count) ⌝ }
+    ensures { λ r. ⌜ verdict r (now (place .exit)) ≡ first (tableChecks kind (before subj pred obj ann) count) ⌝ }
 {
-    let answer = table::check(kind, subj, pred, obj, ann, count);
+    let answer = trackvesper::check(kind, subj, pred, obj, ann, count);
     *place = answer.place;
     answer.number
 }
@@ -47,9 +48,9 @@ pub extern "C" fn trial_add(
     a: u64,
     place: &mut usize,
 ) -> u8
-    ensures { λ r. ⌜ Adding kind (row s p o a) (lanes (now (subj .entry)) (now (pred .entry)) (now (obj .entry)) (now (ann .entry))) (now (count .entry)) (lanes (now (subj .exit)) (now (pred .exit)) (now (obj .exit)) (now (ann .exit))) r (now (place .exit)) (now (count .exit)) ⌝ }
+    ensures { λ r. ⌜ Adding kind (row s p o a) (before subj pred obj ann) (now (count .entry)) (after subj pred obj ann) r (now (place .exit)) (now (count .exit)) ⌝ }
 {
-    let answer = table::add(kind, subj, pred, obj, ann, *count, s, p, o, a);
+    let answer = trackvesper::add(kind, subj, pred, obj, ann, *count, s, p, o, a);
     *count = answer.count;
     *place = answer.place;
     answer.number
@@ -67,9 +68,9 @@ pub extern "C" fn trial_read(
     base: &mut u16,
     count: &mut usize,
 ) -> u8
-    ensures { λ r. ⌜ Reading (now (book .entry)) (lanes (now (subj .entry)) (now (pred .entry)) (now (obj .entry)) (now (ann .entry))) (lanes (now (subj .exit)) (now (pred .exit)) (now (obj .exit)) (now (ann .exit))) r (now (place .exit)) (now (kind .exit)) (now (base .exit)) (now (count .exit)) ⌝ }
+    ensures { λ r. ⌜ Reading (now (book .entry)) (before subj pred obj ann) (after subj pred obj ann) r (now (place .exit)) (now (kind .exit)) (now (base .exit)) (now (count .exit)) ⌝ }
 {
-    let answer = book::read(book, subj, pred, obj, ann);
+    let answer = trackvesper::read(book, subj, pred, obj, ann);
     *place = answer.place;
     *kind = answer.kind;
     *base = answer.base;
@@ -90,9 +91,9 @@ pub extern "C" fn trial_write(
     place: &mut usize,
     length: &mut usize,
 ) -> u8
-    ensures { λ r. ⌜ Writing kind base (lanes (now (subj .entry)) (now (pred .entry)) (now (obj .entry)) (now (ann .entry))) count (now (out .entry)) (now (out .exit)) r (now (place .exit)) (now (length .exit)) ⌝ }
+    ensures { λ r. ⌜ Writing kind base (before subj pred obj ann) count (now (out .entry)) (now (out .exit)) r (now (place .exit)) (now (length .exit)) ⌝ }
 {
-    let answer = book::write(kind, base, subj, pred, obj, ann, count, out);
+    let answer = trackvesper::write(kind, base, subj, pred, obj, ann, count, out);
     *place = answer.place;
     *length = answer.length;
     answer.number
@@ -109,9 +110,9 @@ pub extern "C" fn trial_close(
     count: &mut usize,
     place: &mut usize,
 ) -> u8
-    ensures { λ r. ⌜ Closing kind (lanes (now (subj .entry)) (now (pred .entry)) (now (obj .entry)) (now (ann .entry))) (now (count .entry)) (lanes (now (subj .exit)) (now (pred .exit)) (now (obj .exit)) (now (ann .exit))) r (now (place .exit)) (now (count .exit)) ⌝ }
+    ensures { λ r. ⌜ Closing kind (before subj pred obj ann) (now (count .entry)) (after subj pred obj ann) r (now (place .exit)) (now (count .exit)) ⌝ }
 {
-    let answer = closing::close(kind, subj, pred, obj, ann, *count);
+    let answer = trackvesper::close(kind, subj, pred, obj, ann, *count);
     *count = answer.count;
     *place = answer.place;
     answer.number
@@ -148,7 +149,7 @@ pub extern "C" fn trial_run(
     terms: &mut [u16],
     anns: &mut [u64],
 ) -> RunDone
-    ensures { λ r. ⌜ Ran (running kind (lanes (now (subj .entry)) (now (pred .entry)) (now (obj .entry)) (now (ann .entry))) count (now (terms .entry)) (now (anns .entry)) (now (records .entry)) (length (now (records .entry))) steps allowed) (r .number) (r .place) (r .answers) (r .looks) (now (terms .entry)) (now (anns .entry)) (now (terms .exit)) (now (anns .exit)) ⌝ }
+    ensures { λ r. ⌜ Ran (running kind (before subj pred obj ann) count (now (terms .entry)) (now (anns .entry)) (now (records .entry)) (length (now (records .entry))) steps allowed) (r .number) (r .place) (r .answers) (r .looks) (now (terms .entry)) (now (anns .entry)) (now (terms .exit)) (now (anns .exit)) ⌝ }
 {
     trackvesper::run(
         kind,

@@ -2,7 +2,8 @@
 
 use std::path::Path;
 use trial::book;
-use trial::question::{bytes_of, AnnSlot, Part, Pattern, Slot};
+use trial::pattern::{AnnSlot, Pattern, Slot};
+use trial::question::{bytes_of, Part};
 use trial::random::counters::behind_length;
 use trial::random::{books, closings, counters, legal_kind, questions, Random};
 

@@ -1,6 +1,7 @@
 //! Reading and writing books.
 
-use crate::{calls, same, Difference};
+use crate::calls;
+use crate::difference::{same, Difference};
 use trial::book;
 use trial::random::{self, books, tables, Random};
 use trial::table::Lanes;

@@ -3,96 +3,75 @@
 //! Nothing checks these declarations against the Rattle source: a slice goes over as a pointer
 //! and a length, a reference as a pointer.
 
-use crate::questions::record_of;
-use crate::runs::Running;
+use crate::records::{record_of, StepRecord};
+use crate::running::Running;
 use trial::book::{ReadOut, WriteOut};
 use trial::closing::CloseOut;
 use trial::question::Compiled;
 use trial::steps::Ran;
 use trial::table::{Added, Lanes, Row, Verdict};
 
-extern "C" {
-    fn trial_check(
-        kind: u8,
-        subj: *const u16,
-        subj_len: usize,
-        pred: *const u16,
-        pred_len: usize,
-        obj: *const u16,
-        obj_len: usize,
-        ann: *const u64,
-        ann_len: usize,
-        count: usize,
-        place: *mut usize,
-    ) -> u8;
+/// Declares exports that take the four lanes: `const` or `mut`, between the semicolons, stands for
+/// a pointer and a length of each.
+macro_rules! exports_over_lanes {
+    ($(fn $name:ident($($front:ident: $first:ty),*; $lent:tt; $($back:ident: $last:ty),*) -> $out:ty;)*) => {
+        extern "C" {
+            $(fn $name(
+                $($front: $first,)*
+                subj: *$lent u16,
+                subj_len: usize,
+                pred: *$lent u16,
+                pred_len: usize,
+                obj: *$lent u16,
+                obj_len: usize,
+                ann: *$lent u64,
+                ann_len: usize,
+                $($back: $last,)*
+            ) -> $out;)*
+        }
+    };
+}
 
+/// Calls such an export: the lanes, and how their pointers are had, stand between the semicolons.
+macro_rules! over_lanes {
+    ($name:ident($($front:expr),*; $lanes:ident $pointer:ident; $($back:expr),*)) => {
+        $name(
+            $($front,)*
+            $lanes.subj.$pointer(),
+            $lanes.subj.len(),
+            $lanes.pred.$pointer(),
+            $lanes.pred.len(),
+            $lanes.obj.$pointer(),
+            $lanes.obj.len(),
+            $lanes.ann.$pointer(),
+            $lanes.ann.len(),
+            $($back,)*
+        )
+    };
+}
+
+exports_over_lanes! {
+    fn trial_check(kind: u8; const; count: usize, place: *mut usize) -> u8;
     fn trial_add(
-        kind: u8,
-        subj: *mut u16,
-        subj_len: usize,
-        pred: *mut u16,
-        pred_len: usize,
-        obj: *mut u16,
-        obj_len: usize,
-        ann: *mut u64,
-        ann_len: usize,
-        count: *mut usize,
-        s: u16,
-        p: u16,
-        o: u16,
-        a: u64,
-        place: *mut usize,
+        kind: u8; mut; count: *mut usize, s: u16, p: u16, o: u16, a: u64, place: *mut usize
     ) -> u8;
-
     fn trial_read(
-        book: *const u8,
-        book_len: usize,
-        subj: *mut u16,
-        subj_len: usize,
-        pred: *mut u16,
-        pred_len: usize,
-        obj: *mut u16,
-        obj_len: usize,
-        ann: *mut u64,
-        ann_len: usize,
-        place: *mut usize,
-        kind: *mut u8,
-        base: *mut u16,
-        count: *mut usize,
+        book: *const u8, book_len: usize; mut;
+        place: *mut usize, kind: *mut u8, base: *mut u16, count: *mut usize
     ) -> u8;
-
     fn trial_write(
-        kind: u8,
-        base: u16,
-        subj: *const u16,
-        subj_len: usize,
-        pred: *const u16,
-        pred_len: usize,
-        obj: *const u16,
-        obj_len: usize,
-        ann: *const u64,
-        ann_len: usize,
-        count: usize,
-        out: *mut u8,
-        out_len: usize,
-        place: *mut usize,
-        length: *mut usize,
+        kind: u8, base: u16; const;
+        count: usize, out: *mut u8, out_len: usize, place: *mut usize, length: *mut usize
     ) -> u8;
+    fn trial_close(kind: u8; mut; count: *mut usize, place: *mut usize) -> u8;
+    fn trial_run(
+        kind: u8; const;
+        count: usize, records: *const StepRecord, records_len: usize, steps: usize, allowed: u32,
+        terms: *mut u16, terms_len: usize, anns: *mut u64, anns_len: usize
+    ) -> RunDone;
+}
 
-    fn trial_close(
-        kind: u8,
-        subj: *mut u16,
-        subj_len: usize,
-        pred: *mut u16,
-        pred_len: usize,
-        obj: *mut u16,
-        obj_len: usize,
-        ann: *mut u64,
-        ann_len: usize,
-        count: *mut usize,
-        place: *mut usize,
-    ) -> u8;
-
+extern "C" {
     fn trial_close_book(book: *const u8, book_len: usize, out: *mut u8, out_len: usize) -> u64;
 
     fn trial_fill(
@@ -102,44 +81,6 @@ extern "C" {
         records: *mut StepRecord,
         records_len: usize,
     ) -> Filled;
-
-    fn trial_run(
-        kind: u8,
-        subj: *const u16,
-        subj_len: usize,
-        pred: *const u16,
-        pred_len: usize,
-        obj: *const u16,
-        obj_len: usize,
-        ann: *const u64,
-        ann_len: usize,
-        count: usize,
-        records: *const StepRecord,
-        records_len: usize,
-        steps: usize,
-        allowed: u32,
-        terms: *mut u16,
-        terms_len: usize,
-        anns: *mut u64,
-        anns_len: usize,
-    ) -> RunDone;
-}
-
-/// A step record as the library lends and borrows it.
-#[repr(C)]
-#[derive(Clone, Copy, Debug, PartialEq, Eq)]
-pub struct StepRecord {
-    pub op: u8,
-    pub test: u8,
-    pub target: usize,
-    pub smark: u8,
-    pub subj: u16,
-    pub pmark: u8,
-    pub pred: u16,
-    pub omark: u8,
-    pub obj: u16,
-    pub amark: u8,
-    pub ann: u64,
 }
 
 #[repr(C)]
@@ -160,21 +101,7 @@ struct RunDone {
 pub fn check(kind: u8, lanes: &Lanes, count: usize) -> Verdict {
     let mut place = usize::MAX;
     // SAFETY: the slices are live for the call, which only reads them.
-    let number = unsafe {
-        trial_check(
-            kind,
-            lanes.subj.as_ptr(),
-            lanes.subj.len(),
-            lanes.pred.as_ptr(),
-            lanes.pred.len(),
-            lanes.obj.as_ptr(),
-            lanes.obj.len(),
-            lanes.ann.as_ptr(),
-            lanes.ann.len(),
-            count,
-            &mut place,
-        )
-    };
+    let number = unsafe { over_lanes!(trial_check(kind; lanes as_ptr; count, &mut place)) };
     Verdict::new(u32::from(number), place)
 }
 
@@ -183,23 +110,7 @@ pub fn add(kind: u8, lanes: &mut Lanes, mut count: usize, row: Row) -> Added {
     let ((s, p, o), a) = row;
     // SAFETY: the slices are live for the call, borrowed for it alone, and do not overlap.
     let number = unsafe {
-        trial_add(
-            kind,
-            lanes.subj.as_mut_ptr(),
-            lanes.subj.len(),
-            lanes.pred.as_mut_ptr(),
-            lanes.pred.len(),
-            lanes.obj.as_mut_ptr(),
-            lanes.obj.len(),
-            lanes.ann.as_mut_ptr(),
-            lanes.ann.len(),
-            &mut count,
-            s,
-            p,
-            o,
-            a,
-            &mut place,
-        )
+        over_lanes!(trial_add(kind; lanes as_mut_ptr; &mut count, s, p, o, a, &mut place))
     };
     Added { number: u32::from(number), place: place as u64, count }
 }
@@ -207,24 +118,11 @@ pub fn add(kind: u8, lanes: &mut Lanes, mut count: usize, row: Row) -> Added {
 pub fn read(book: &[u8], lanes: &mut Lanes) -> ReadOut {
     let mut out = ReadOut { number: 0, place: 0, kind: 255, base: 255, count: 255 };
     let mut place = usize::MAX;
+    let (kind, base, count) = (&mut out.kind, &mut out.base, &mut out.count);
     // SAFETY: the slices are live for the call, the lanes borrowed for it alone, and none overlap.
     let number = unsafe {
-        trial_read(
-            book.as_ptr(),
-            book.len(),
-            lanes.subj.as_mut_ptr(),
-            lanes.subj.len(),
-            lanes.pred.as_mut_ptr(),
-            lanes.pred.len(),
-            lanes.obj.as_mut_ptr(),
-            lanes.obj.len(),
-            lanes.ann.as_mut_ptr(),
-            lanes.ann.len(),
-            &mut place,
-            &mut out.kind,
-            &mut out.base,
-            &mut out.count,
-        )
+        let (bytes, len) = (book.as_ptr(), book.len());
+        over_lanes!(trial_read(bytes, len; lanes as_mut_ptr; &mut place, kind, base, count))
     };
     ReadOut { number: u32::from(number), place: place as u64, ..out }
 }
@@ -233,23 +131,9 @@ pub fn write(kind: u8, base: u16, lanes: &Lanes, count: usize, out: &mut [u8]) -
     let (mut place, mut length) = (usize::MAX, usize::MAX);
     // SAFETY: the slices are live for the call, the output borrowed for it alone, and none overlap.
     let number = unsafe {
-        trial_write(
-            kind,
-            base,
-            lanes.subj.as_ptr(),
-            lanes.subj.len(),
-            lanes.pred.as_ptr(),
-            lanes.pred.len(),
-            lanes.obj.as_ptr(),
-            lanes.obj.len(),
-            lanes.ann.as_ptr(),
-            lanes.ann.len(),
-            count,
-            out.as_mut_ptr(),
-            out.len(),
-            &mut place,
-            &mut length,
-        )
+        let (bytes, len) = (out.as_mut_ptr(), out.len());
+        let (place, length) = (&mut place, &mut length);
+        over_lanes!(trial_write(kind, base; lanes as_ptr; count, bytes, len, place, length))
     };
     WriteOut { number: u32::from(number), place: place as u64, length }
 }
@@ -257,21 +141,8 @@ pub fn write(kind: u8, base: u16, lanes: &Lanes, count: usize, out: &mut [u8]) -
 pub fn close(kind: u8, lanes: &mut Lanes, mut count: usize) -> CloseOut {
     let mut place = usize::MAX;
     // SAFETY: the lanes are live for the call, borrowed for it alone, and do not overlap.
-    let number = unsafe {
-        trial_close(
-            kind,
-            lanes.subj.as_mut_ptr(),
-            lanes.subj.len(),
-            lanes.pred.as_mut_ptr(),
-            lanes.pred.len(),
-            lanes.obj.as_mut_ptr(),
-            lanes.obj.len(),
-            lanes.ann.as_mut_ptr(),
-            lanes.ann.len(),
-            &mut count,
-            &mut place,
-        )
-    };
+    let number =
+        unsafe { over_lanes!(trial_close(kind; lanes as_mut_ptr; &mut count, &mut place)) };
     CloseOut { number: u32::from(number), place: place as u64, count }
 }
 
@@ -296,26 +167,9 @@ pub fn run(running: &Running, terms: &mut [u16], anns: &mut [u64]) -> Ran {
     let records: Vec<StepRecord> = steps.iter().map(record_of).collect();
     // SAFETY: the slices are live for the call, the answer lanes borrowed for it alone, and none overlap.
     let done = unsafe {
-        trial_run(
-            *kind,
-            lanes.subj.as_ptr(),
-            lanes.subj.len(),
-            lanes.pred.as_ptr(),
-            lanes.pred.len(),
-            lanes.obj.as_ptr(),
-            lanes.obj.len(),
-            lanes.ann.as_ptr(),
-            lanes.ann.len(),
-            *count,
-            records.as_ptr(),
-            records.len(),
-            *step_count,
-            *allowed,
-            terms.as_mut_ptr(),
-            terms.len(),
-            anns.as_mut_ptr(),
-            anns.len(),
-        )
+        over_lanes!(trial_run(*kind; lanes as_ptr;
+            *count, records.as_ptr(), records.len(), *step_count, *allowed,
+            terms.as_mut_ptr(), terms.len(), anns.as_mut_ptr(), anns.len()))
     };
     let (number, place) = (u32::from(done.number), done.place as u64);
     Ran { number, place, answers: done.answers, looks: done.looks }

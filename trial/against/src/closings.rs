@@ -1,9 +1,9 @@
 //! Closing a table, the exported call, and the closing program as a process.
 
-use crate::{calls, same, Difference};
-use std::io::Write;
+use crate::calls;
+use crate::difference::{same, Difference};
+use crate::process;
 use std::path::Path;
-use std::process::{Command, Stdio};
 use trial::random::{books, closings, Random};
 use trial::table::Lanes;
 use trial::{book, closing, export, programs};
@@ -51,26 +51,11 @@ pub fn close_book(seed: u64) -> Result<(), Difference> {
     same("close book: output", &proved_out, &model_out, input)
 }
 
-/// Runs a program on input and gives back what it wrote.
-pub fn run(program: &Path, input: &[u8]) -> String {
-    let mut child = Command::new(program)
-        .stdin(Stdio::piped())
-        .stdout(Stdio::piped())
-        .spawn()
-        .expect("the program is built by rt");
-    let mut stdin = child.stdin.take().expect("its input is a pipe");
-    // A program that has read enough may end before it has read all.
-    let _ = stdin.write_all(input);
-    drop(stdin);
-    let output = child.wait_with_output().expect("it ends");
-    String::from_utf8_lossy(&output.stdout).into_owned()
-}
-
 /// The closing program as a process.
 pub fn close_book_program(program: &Path, seed: u64) -> Result<(), Difference> {
     let mut random = Random::new(seed);
     let bytes = book_bytes(&mut random);
-    let proved = run(program, &bytes);
+    let proved = process::run(program, &bytes);
     let model = programs::close_book_program(&bytes);
     same("closing program", &proved, &model, || format!("input {bytes:?}"))
 }

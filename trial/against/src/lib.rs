@@ -10,14 +10,17 @@ pub mod baseline;
 pub mod books;
 pub mod calls;
 pub mod closings;
+pub mod difference;
+pub mod process;
 pub mod questions;
+pub mod records;
+pub mod running;
 pub mod runs;
 pub mod stored;
 pub mod stored_questions;
 pub mod tables;
 
-/// What differed, with the input it differed on.
-pub type Difference = String;
+use difference::Difference;
 
 /// Runs one case of one kind from its seed.
 pub type Case = fn(u64) -> Result<(), Difference>;
@@ -34,19 +37,6 @@ pub const CASES: [(&str, Case); 9] = [
     ("ask", runs::ask),
     ("run", runs::any_run),
 ];
-
-/// Compares what the two gave; `input` is only put together where they differ.
-pub fn same<T: PartialEq + std::fmt::Debug>(
-    what: &str,
-    proved: &T,
-    model: &T,
-    input: impl FnOnce() -> String,
-) -> Result<(), Difference> {
-    if proved == model {
-        return Ok(());
-    }
-    Err(format!("{what}\n  proved: {proved:?}\n  model:  {model:?}\n  input:  {}", input()))
-}
 
 /// Runs a kind of case at each seed and stops at the first difference.
 pub fn run(name: &str, case: Case, seeds: std::ops::Range<u64>) {

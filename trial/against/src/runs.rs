@@ -1,43 +1,14 @@
 //! Runs: questions compiled and asked of a table, step lists of any worth, and the counter's
 //! program as a process.
 
-use crate::closings::run as run_program;
-use crate::{calls, same, Difference};
+use crate::calls;
+use crate::difference::{same, Difference};
+use crate::process;
+use crate::running::Running;
 use std::path::Path;
 use trial::random::{counters, questions, steps as any_steps, tables, Random};
-use trial::steps::{self, Ran, Step, ANNS, MOST_STEPS, TERMS};
-use trial::table::Lanes;
+use trial::steps::{Step, MOST_STEPS};
 use trial::{programs, question};
-
-/// All that a run is handed.
-#[derive(Clone, Debug)]
-pub struct Running {
-    pub kind: u8,
-    pub lanes: Lanes,
-    pub count: usize,
-    pub steps: Vec<Step>,
-    pub step_count: usize,
-    pub allowed: u32,
-    pub terms: Vec<u16>,
-    pub anns: Vec<u64>,
-}
-
-impl Running {
-    /// Answer lanes of so many rows, with anything in them.
-    fn room(mut self, random: &mut Random, rows: usize) -> Running {
-        self.terms = (0..TERMS * rows).map(|_| random.draw() as u16).collect();
-        self.anns = (0..ANNS * rows).map(|_| random.draw()).collect();
-        self
-    }
-
-    fn model(&self) -> (Ran, Vec<u16>, Vec<u64>) {
-        let (mut terms, mut anns) = (self.terms.clone(), self.anns.clone());
-        let Running { kind, lanes, count, steps, step_count, allowed, .. } = self;
-        let ran =
-            steps::run(*kind, lanes, *count, steps, *step_count, *allowed, &mut terms, &mut anns);
-        (ran, terms, anns)
-    }
-}
 
 /// Both run it; number, place, answers, looks and both answer lanes are compared.
 pub fn run_one(running: &Running) -> Result<(), Difference> {
@@ -136,7 +107,7 @@ pub fn any_run(seed: u64) -> Result<(), Difference> {
 pub fn counter_program(program: &Path, seed: u64) -> Result<(), Difference> {
     let mut random = Random::new(seed);
     let input = counters::input(&mut random);
-    let proved = run_program(program, &input);
+    let proved = process::run(program, &input);
     let model = programs::counter_program(&input);
     same("counter", &proved, &model, || format!("input {input:?}"))
 }

@@ -1,6 +1,7 @@
 //! The table check and adding.
 
-use crate::{calls, same, Difference};
+use crate::calls;
+use crate::difference::{same, Difference};
 use trial::random::{self, tables, Random};
 use trial::table::{self, Lanes, Row};
 

@@ -1,7 +1,7 @@
 //! Closing, the exported call and the closing program against the model, and the document's
 //! examples through the program.
 
-use against::{closings, run, stored};
+use against::{closings, process, run, stored};
 use std::path::PathBuf;
 use trial::random::Random;
 use trial::table::Lanes;
@@ -33,7 +33,7 @@ fn the_program_agrees() {
 #[test]
 fn stored_books_give_their_listing() {
     for (name, bytes, listing) in stored::listings() {
-        assert_eq!(closings::run(&program(), &bytes), listing, "{name}");
+        assert_eq!(process::run(&program(), &bytes), listing, "{name}");
     }
 }
 
@@ -46,7 +46,7 @@ fn the_program_sees_a_book_that_is_too_long() {
             bytes.extend(trial::book::triple_field(((10, 2, 11), 5)));
         }
         bytes.truncate(length);
-        let proved = closings::run(&program(), &bytes);
+        let proved = process::run(&program(), &bytes);
         assert_eq!(proved, trial::programs::close_book_program(&bytes), "{length} bytes");
     }
 }

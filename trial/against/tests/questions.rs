@@ -1,7 +1,8 @@
 //! Compiling against the model: random questions with fixed seeds, cut at every byte and damaged
 //! at every place, and stored questions with the answer each must get.
 
-use against::questions::{compiled, marked, record};
+use against::questions::compiled;
+use against::records::{marked, record};
 use against::{questions, run, stored_questions as stored};
 use trial::question::{bytes_of, Compiled};
 use trial::random::{questions as deal, Random};

@@ -1,10 +1,10 @@
 //! Runs and the counter's program against the model, and the document's examples.
 
-use against::runs::{self, Running};
-use against::{asked, run, stored, stored_questions};
+use against::running::Running;
+use against::{asked, process, run, runs, stored, stored_questions};
 use std::path::PathBuf;
 use std::time::Instant;
-use trial::question::{AnnSlot, Pattern, Slot};
+use trial::pattern::{AnnSlot, Pattern, Slot};
 use trial::steps::{Ran, Step};
 
 fn program() -> PathBuf {
@@ -83,7 +83,7 @@ fn p11_with_every_number_of_looks() {
 #[test]
 fn stored_inputs_give_their_answers() {
     for (name, input, output) in asked::countings() {
-        assert_eq!(against::closings::run(&program(), &input), output, "{name}");
+        assert_eq!(process::run(&program(), &input), output, "{name}");
         assert_eq!(trial::programs::counter_program(&input), output, "{name}, model");
     }
 }

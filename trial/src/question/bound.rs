@@ -1,7 +1,8 @@
 //! The two checks over the whole tree: 21, a test's variables are surely bound by its own part;
 //! 22, its annotation variable stands in no TRIPLE outside that part.
 
-use super::{AnnSlot, Part, Pattern, Slot, Test, VARIABLE};
+use super::part::{Part, Test};
+use crate::pattern::{AnnSlot, Pattern, Slot, VARIABLE};
 use crate::table::Verdict;
 use std::collections::BTreeSet;
 

@@ -1,6 +1,6 @@
 //! Compiling a tree into one list of steps.
 
-use super::{Part, Test};
+use super::part::{Part, Test};
 use crate::steps::Step;
 
 /// The steps of a question: those of its part, and one GIVE at the end.

@@ -1,8 +1,8 @@
 //! The parser: fields judged as they are met, going in. A holder's own 16, 17, 20, then all
 //! that is in its parts, then the bytes left over in it.
 
-use super::{judge_ann, judge_term, AnnSlot, Part, Pattern, Slot, Test};
-use super::{BOTH, MOST_PARTS, ONLY, TEST, TRIPLE};
+use super::part::{Part, Test, BOTH, MOST_PARTS, ONLY, TEST, TRIPLE};
+use crate::pattern::{judge_ann, judge_term, AnnSlot, Pattern, Slot};
 use crate::table::Verdict;
 
 /// The tree of a question, or the first refusal among 16 to 20 and 8 to 10.

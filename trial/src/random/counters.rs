@@ -2,7 +2,8 @@
 
 use super::{annotation, books, closings, damage, legal_kind, questions, Random};
 use crate::book;
-use crate::question::{bytes_of, AnnSlot, Part, Pattern, Slot};
+use crate::pattern::{AnnSlot, Pattern, Slot};
+use crate::question::{bytes_of, Part};
 
 /// Bytes behind their length; too many for a length are cut.
 pub fn behind_length(bytes: &[u8]) -> Vec<u8> {

@@ -2,8 +2,9 @@
 
 use super::{annotation, bad_annotation, damage, threshold, Random};
 use super::{BAD_TERMS, NAMES, NO_NAMES, TERMS, TIGHT_NAMES, TIGHT_TERMS};
+use crate::pattern::{AnnSlot, Pattern, Slot};
 use crate::question::{self, bytes_of, pattern_value, surely_bound, test_value};
-use crate::question::{AnnSlot, Bound, Part, Pattern, Slot, Test};
+use crate::question::{Bound, Part, Test};
 use crate::question::{BOTH, EITHER, ONLY, TEST, TRIPLE};
 
 /// Annotation variables any TRIPLE may use.

@@ -2,7 +2,8 @@
 
 use super::{bad_annotation, questions, threshold, Random};
 use super::{BAD_TERMS, NO_NAMES, TERMS, TIGHT_NAMES, TIGHT_TERMS};
-use crate::question::{flat, AnnSlot, Pattern, Slot};
+use crate::pattern::{AnnSlot, Pattern, Slot};
+use crate::question::flat;
 use crate::steps::{Step, FORK, GO, MOST_STEPS};
 
 fn slot(random: &mut Random, constants: &[u16]) -> Slot {

@@ -1,7 +1,8 @@
 //! Short ways to say tables, books and questions in the tests.
 #![allow(dead_code)]
 
-use trial::question::{self, AnnSlot, Part, Pattern, Slot, Test};
+use trial::pattern::{AnnSlot, Pattern, Slot};
+use trial::question::{self, Part, Test};
 use trial::steps::{self, Ran, Step};
 use trial::table::{self, Lanes, Row};
 

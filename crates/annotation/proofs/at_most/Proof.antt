@@ -4,11 +4,8 @@ use borrow.Author.Needs.{needs}
 use Rattle.annotation.proofs.at_most.Statement.{statement}
 use Rattle.annotation.proofs.at_most.Tie as tie
 
-join-requires : tie.Need-join-requires
-join-requires c κs = search needs
-
 returns : tie.Need-returns
 returns c = rw (c .join .ensures) refl
 
 pub at-most-spec : {M : Type 1} → statement M
-at-most-spec = tie.close (tie.spec join-requires returns)
+at-most-spec = tie.close (tie.spec (λ c κs. search needs) returns)

@@ -5,23 +5,14 @@ use Rattle.annotation.proofs.Which.{is-years, is-sheets, joins-by-max}
 use Rattle.annotation.proofs.join.Statement.{statement}
 use Rattle.annotation.proofs.join.Tie as tie
 
-in-either-requires : tie.Need-in-either-requires
-in-either-requires c κs = search needs
-
 returns : tie.Need-returns
 returns c = rw (is-years _ (c .before .if1 .taken)) (c .in-either .ensures)
 
-in-either-requires-2 : tie.Need-in-either-requires-2
-in-either-requires-2 c κs = search needs
-
 returns-2 : tie.Need-returns-2
 returns-2 c = rw (is-sheets _ (c .before .before .if1 .left) (c .before .if2 .taken)) (c .in-either2 .ensures)
-
-larger-requires : tie.Need-larger-requires
-larger-requires c κs = search needs
 
 returns-3 : tie.Need-returns-3
 returns-3 c = c .larger .ensures ∙ joins-by-max _ (c .before .before .if1 .left) (c .before .if2 .left) _ _
 
 pub join-spec : {M : Type 1} → statement M
-join-spec = tie.close (tie.spec in-either-requires returns in-either-requires-2 returns-2 larger-requires returns-3)
+join-spec = tie.close (tie.spec (λ c κs. search needs) returns (λ c κs. search needs) returns-2 (λ c κs. search needs) returns-3)

@@ -4,20 +4,11 @@ use Rattle.annotation.proofs.Which.{is-years, is-sheets, is-degree, is-
 use Rattle.annotation.proofs.meet.Statement.{statement}
 use Rattle.annotation.proofs.meet.Tie as tie
 
-in-both-requires : tie.Need-in-both-requires
-in-both-requires c κs = search needs
-
 returns : tie.Need-returns
 returns c = rw (is-years _ (c .before .if1 .taken)) (c .in-both .ensures)
 
-in-both-requires-2 : tie.Need-in-both-requires-2
-in-both-requires-2 c κs = search needs
-
 returns-2 : tie.Need-returns-2
 returns-2 c = rw (is-sheets _ (c .before .before .if1 .left) (c .before .if2 .taken)) (c .in-both2 .ensures)
-
-smaller-requires : tie.Need-smaller-requires
-smaller-requires c κs = search needs
 
 returns-3 : tie.Need-returns-3
 returns-3 c = rw (is-degree _ (c .before .before .before .if1 .left) (c .before .before .if2 .left) (c .before .if3 .taken)) (c .smaller .ensures)
@@ -32,4 +23,4 @@ returns-4 : tie.Need-returns-4
 returns-4 c = rw (is-strict _ (c .before .before .before .if1 .left) (c .before .before .if2 .left) (c .before .if3 .left)) (c .strict-meet .ensures)
 
 pub meet-spec : {M : Type 1} → statement M
-meet-spec = tie.close (tie.spec in-both-requires returns in-both-requires-2 returns-2 smaller-requires returns-3 strict-meet-requires returns-4)
+meet-spec = tie.close (tie.spec (λ c κs. search needs) returns (λ c κs. search needs) returns-2 (λ c κs. search needs) returns-3 strict-meet-requires returns-4)

@@ -7,9 +7,6 @@ use borrow.Author.Needs.{needs}
 use Rattle.book.proofs.write.Statement.{statement}
 use Rattle.book.proofs.write.Tie as tie
 
-write-verdict-requires : tie.Need-write-verdict-requires
-write-verdict-requires c κs = search needs
-
 returns : tie.Need-returns
 returns c =
     let the-args = c .before .before .before .before .before .before .before .before .args in
@@ -31,45 +28,34 @@ write-fields-requires c κs =
     let the-if1 = c .before .before .before .before .before .if1 in
     let the-write-head = c .before .before .before .write-head in
     let s = write-sound (the-args .kind) (the-args .base) (lanes (the-args .subj .now) (the-args .pred .now) (the-args .obj .now) (the-args .ann .now)) (the-args .count) (the-args .out .now) _ (the-write-verdict .ensures) (the-if1 .left) in
-    record { rows = sound-rows-within (the-args .kind) (lanes (the-args .subj .now) (the-args .pred .now) (the-args .obj .now) (the-args .ann .now)) (the-args .count) s; bytes = omega (arith, the-write-head .kept .0, write-room (the-args .kind) (the-args .base) (lanes (the-args .subj .now) (the-args .pred .now) (the-args .obj .now) (the-args .ann .now)) (the-args .count) (the-args .out .now) _ (the-write-verdict .ensures) (the-if1 .left)) }
+    record { rows = sound-rows-within s; bytes = omega (arith, the-write-head .kept .0, write-room (the-args .kind) (the-args .base) (lanes (the-args .subj .now) (the-args .pred .now) (the-args .obj .now) (the-args .ann .now)) (the-args .count) (the-args .out .now) _ (the-write-verdict .ensures) (the-if1 .left)) }
 
-mul-t10 : tie.Need-mul-t10
-mul-t10 c =
+book-length-requires : tie.Need-book-length-requires
+book-length-requires c κs =
     let the-args = c .before .before .before .before .before .before .before .before .before .before .before .before .before .before .before .before .args in
     let the-write-verdict = c .before .before .before .before .before .before .before .before .before .before .write-verdict in
     let the-if1 = c .before .before .before .before .before .before .before .before .if1 in
     let s = write-sound (the-args .kind) (the-args .base) (lanes (the-args .subj .now) (the-args .pred .now) (the-args .obj .now) (the-args .ann .now)) (the-args .count) (the-args .out .now) _ (the-write-verdict .ensures) (the-if1 .left) in
     omega (arith, s .within, s .long)
-
-add-t17 : tie.Need-add-t17
-add-t17 c =
-    let the-args = c .before .before .before .before .before .before .before .before .before .before .before .before .before .before .before .before .args in
-    let the-write-verdict = c .before .before .before .before .before .before .before .before .before .before .write-verdict in
-    let the-if1 = c .before .before .before .before .before .before .before .before .if1 in
-    let s = write-sound (the-args .kind) (the-args .base) (lanes (the-args .subj .now) (the-args .pred .now) (the-args .obj .now) (the-args .ann .now)) (the-args .count) (the-args .out .now) _ (the-write-verdict .ensures) (the-if1 .left) in
-    omega (arith, s .within, s .long)
-
-same-length : tie.Need-same-length
-same-length c = search needs
 
 returns-2 : tie.Need-returns-2
 returns-2 c =
-    let the-args = c .before .before .before .before .before .before .before .before .before .before .before .before .before .before .before .before .args in
-    let the-write-verdict = c .before .before .before .before .before .before .before .before .before .before .write-verdict in
-    let the-if1 = c .before .before .before .before .before .before .before .before .if1 in
-    let the-write-head = c .before .before .before .before .before .before .write-head in
-    let the-write-fields = c .before .before .write-fields in
-    write-done (the-args .kind) (the-args .base) (lanes (the-args .subj .now) (the-args .pred .now) (the-args .obj .now) (the-args .ann .now)) (the-args .count) (the-args .out .now) _ (the-write-verdict .ensures) (the-if1 .left) _ _ (the-write-head .ensures) (the-write-fields .ensures)
+    let the-args = c .before .before .before .before .before .before .before .before .before .before .before .before .before .before .before .before .before .args in
+    let the-write-verdict = c .before .before .before .before .before .before .before .before .before .before .before .write-verdict in
+    let the-if1 = c .before .before .before .before .before .before .before .before .before .if1 in
+    let the-write-head = c .before .before .before .before .before .before .before .write-head in
+    let the-book-length = c .book-length in
+    let the-write-fields = c .before .before .before .write-fields in
+    write-done (the-args .kind) (the-args .base) (lanes (the-args .subj .now) (the-args .pred .now) (the-args .obj .now) (the-args .ann .now)) (the-args .count) (the-args .out .now) _ (the-write-verdict .ensures) (the-if1 .left) _ _ _ (the-write-head .ensures) (the-write-fields .ensures) (the-book-length .ensures)
 
 pub write-spec : {M : Type 1} → statement M
 write-spec =
     tie.close
     (tie.spec
-    write-verdict-requires
+    (λ c κs. search needs)
     returns
     write-head-requires
     write-fields-requires
-    mul-t10
-    add-t17
-    same-length
+    book-length-requires
+    (λ c. search needs)
     returns-2)

@@ -10,24 +10,12 @@ returns c =
     let the-if1 = c .if1 in
     field-ends (the-args .bytes .now) (the-args .at) (the-if1 .taken)
 
-sub-left : tie.Need-sub-left
-sub-left c = search needs
-
 returns-2 : tie.Need-returns-2
 returns-2 c =
     let the-args = c .before .before .before .args in
     let the-if1 = c .before .if1 in
     let the-if2 = c .if2 in
     field-cut-front (the-args .bytes .now) (the-args .at) (the-if1 .left) (the-if2 .taken)
-
-add-two : tie.Need-add-two
-add-two c = search needs
-
-two-requires : tie.Need-two-requires
-two-requires c κs = search needs
-
-cast-size : tie.Need-cast-size
-cast-size c = search needs
 
 returns-3 : tie.Need-returns-3
 returns-3 c =
@@ -36,9 +24,6 @@ returns-3 c =
     let the-if2 = c .before .before .if2 in
     let the-two = c .before .two in
     field-cut-value (the-args .bytes .now) (the-args .at) (the-if1 .left) (the-if2 .left) (the-two .result) (the-two .ensures) (search needs)
-
-shared-slice-read-t9 : tie.Need-shared-slice-read-t9
-shared-slice-read-t9 c = search needs
 
 returns-4 : tie.Need-returns-4
 returns-4 c =
@@ -53,11 +38,11 @@ field-at-spec =
     tie.close
     (tie.spec
     returns
-    sub-left
+    (λ c. search needs)
     returns-2
-    add-two
-    two-requires
-    cast-size
+    (λ c. search needs)
+    (λ c κs. search needs)
+    (λ c. search needs)
     returns-3
-    shared-slice-read-t9
+    (λ c. search needs)
     returns-4)

@@ -5,42 +5,12 @@ use borrow.Author.Needs.{needs}
 use Rattle.table.proofs.add.Statement.{statement}
 use Rattle.table.proofs.add.Tie as tie
 
-check-requires : tie.Need-check-requires
-check-requires c κs = search needs
-
-same-length : tie.Need-same-length
-same-length c = search needs
-
-same-length-2 : tie.Need-same-length-2
-same-length-2 c = search needs
-
-same-length-3 : tie.Need-same-length-3
-same-length-3 c = search needs
-
-same-length-4 : tie.Need-same-length-4
-same-length-4 c = search needs
-
 returns : tie.Need-returns
 returns c =
     let the-args = c .before .before .before .before .before .before .before .before .before .before .before .args in
     let the-check = c .before .before .check in
     let the-if1 = c .if1 in
     add-by-table (the-args .kind) (row (the-args .s) (the-args .p) (the-args .o) (the-args .a)) (lanes (the-args .subj .now) (the-args .pred .now) (the-args .obj .now) (the-args .ann .now)) (the-args .count) (the-check .result) (the-check .ensures) (the-if1 .taken)
-
-triple-refusal-requires : tie.Need-triple-refusal-requires
-triple-refusal-requires c κs = search needs
-
-same-length-5 : tie.Need-same-length-5
-same-length-5 c = search needs
-
-same-length-6 : tie.Need-same-length-6
-same-length-6 c = search needs
-
-same-length-7 : tie.Need-same-length-7
-same-length-7 c = search needs
-
-same-length-8 : tie.Need-same-length-8
-same-length-8 c = search needs
 
 returns-2 : tie.Need-returns-2
 returns-2 c =
@@ -63,21 +33,6 @@ put-requires c κs =
       legal = added-legal (the-args .kind) (row (the-args .s) (the-args .p) (the-args .o) (the-args .a)) (lanes (the-args .subj .now) (the-args .pred .now) (the-args .obj .now) (the-args .ann .now)) (the-args .count) (the-check .result) (the-check .ensures) (the-if1 .left) _ (the-triple-refusal .ensures) (the-if2 .left);
     }
 
-room-number-requires : tie.Need-room-number-requires
-room-number-requires c κs = search needs
-
-same-length-9 : tie.Need-same-length-9
-same-length-9 c = search needs
-
-same-length-10 : tie.Need-same-length-10
-same-length-10 c = search needs
-
-same-length-11 : tie.Need-same-length-11
-same-length-11 c = search needs
-
-same-length-12 : tie.Need-same-length-12
-same-length-12 c = search needs
-
 returns-3 : tie.Need-returns-3
 returns-3 c =
     let the-args = c .before .before .before .before .before .before .before .before .before .before .before .before .before .before .before .before .before .before .before .before .before .before .before .before .before .before .before .args in
@@ -94,22 +49,22 @@ pub add-spec : {M : Type 1} → statement M
 add-spec =
     tie.close
     (tie.spec
-    check-requires
-    same-length
-    same-length-2
-    same-length-3
-    same-length-4
+    (λ c κs. search needs)
+    (λ c. search needs)
+    (λ c. search needs)
+    (λ c. search needs)
+    (λ c. search needs)
     returns
-    triple-refusal-requires
-    same-length-5
-    same-length-6
-    same-length-7
-    same-length-8
+    (λ c κs. search needs)
+    (λ c. search needs)
+    (λ c. search needs)
+    (λ c. search needs)
+    (λ c. search needs)
     returns-2
     put-requires
-    room-number-requires
-    same-length-9
-    same-length-10
-    same-length-11
-    same-length-12
+    (λ c κs. search needs)
+    (λ c. search needs)
+    (λ c. search needs)
+    (λ c. search needs)
+    (λ c. search needs)
     returns-3)

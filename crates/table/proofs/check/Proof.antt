@@ -7,18 +7,12 @@ use borrow.Author.Needs.{needs}
 use Rattle.table.proofs.check.Statement.{statement}
 use Rattle.table.proofs.check.Tie as tie
 
-kind-refusal-requires : tie.Need-kind-refusal-requires
-kind-refusal-requires c κs = search needs
-
 returns : tie.Need-returns
 returns c =
     let the-args = c .before .before .before .before .before .before .args in
     let the-kind-refusal = c .before .kind-refusal in
     let the-if1 = c .if1 in
     table-by-kind (the-args .kind) (lanes (the-args .subj .now) (the-args .pred .now) (the-args .obj .now) (the-args .ann .now)) (the-args .count) _ (the-kind-refusal .ensures) (the-if1 .taken)
-
-unfit-requires : tie.Need-unfit-requires
-unfit-requires c κs = search needs
 
 returns-2 : tie.Need-returns-2
 returns-2 c =
@@ -62,9 +56,9 @@ pub check-spec : {M : Type 1} → statement M
 check-spec =
     tie.close
     (tie.spec
-    kind-refusal-requires
+    (λ c κs. search needs)
     returns
-    unfit-requires
+    (λ c κs. search needs)
     returns-2
     returns-3
     rows-verdict-requires

@@ -6,9 +6,6 @@ use Rattle.term.specs.Refusal.{first}
 use Rattle.term.proofs.predicate_refusal.Statement.{statement}
 use Rattle.term.proofs.predicate_refusal.Tie as tie
 
-sort-of-requires : tie.Need-sort-of-requires
-sort-of-requires c κs = search needs
-
 returns : tie.Need-returns
 unfolding first
 returns c = rw (← c .before .sort-of .ensures, lt-leb _ 2 (c .if1 .taken)) refl
@@ -22,4 +19,4 @@ unfolding first
 returns-3 c = rw (← c .before .before .sort-of .ensures, le-leb _ 2 (c .before .if1 .left), ne-eqb _ 0 (c .if2 .left)) refl
 
 pub predicate-refusal-spec : {M : Type 1} → statement M
-predicate-refusal-spec = tie.close (tie.spec sort-of-requires returns returns-2 returns-3)
+predicate-refusal-spec = tie.close (tie.spec (λ c κs. search needs) returns returns-2 returns-3)

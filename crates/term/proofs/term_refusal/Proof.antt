@@ -6,9 +6,6 @@ use Rattle.term.specs.Refusal.{first}
 use Rattle.term.proofs.term_refusal.Statement.{statement}
 use Rattle.term.proofs.term_refusal.Tie as tie
 
-sort-of-requires : tie.Need-sort-of-requires
-sort-of-requires c κs = search needs
-
 returns : tie.Need-returns
 unfolding first
 returns c = rw (← c .before .sort-of .ensures, lt-leb _ 2 (c .if1 .taken)) refl
@@ -18,4 +15,4 @@ unfolding first
 returns-2 c = rw (← c .before .sort-of .ensures, le-leb _ 2 (c .if1 .left)) refl
 
 pub term-refusal-spec : {M : Type 1} → statement M
-term-refusal-spec = tie.close (tie.spec sort-of-requires returns returns-2)
+term-refusal-spec = tie.close (tie.spec (λ c κs. search needs) returns returns-2)

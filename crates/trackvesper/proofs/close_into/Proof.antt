@@ -5,27 +5,12 @@ use borrow.Author.Needs.{needs}
 use Rattle.trackvesper.proofs.close_into.Statement.{statement}
 use Rattle.trackvesper.proofs.close_into.Tie as tie
 
-read-requires : tie.Need-read-requires
-read-requires c κs = search needs
-
 pack-requires : tie.Need-pack-requires
 pack-requires c κs =
     let the-args = c .before .before .before .before .before .before .before .before .before .before .before .before .before .before .before .before .before .before .before .before .before .args in
     let the-pre = c .before .before .before .before .before .before .before .before .before .before .before .before .before .before .before .before .before .before .before .before .before .pre in
     let the-read = c .before .before .before .before .before .before .before .before .before .before .read in
     place-small (the-args .book .now) (the-args .out .now) _ _ _ _ _ _ (rw (the-pre) at (the-read .ensures))
-
-same-length : tie.Need-same-length
-same-length c = search needs
-
-same-length-2 : tie.Need-same-length-2
-same-length-2 c = search needs
-
-same-length-3 : tie.Need-same-length-3
-same-length-3 c = search needs
-
-same-length-4 : tie.Need-same-length-4
-same-length-4 c = search needs
 
 returns : tie.Need-returns
 returns c =
@@ -36,9 +21,6 @@ returns c =
     let the-if1 = c .before .if1 in
     rw (the-pack .ensures) (export-unread (the-args .book .now) (the-args .out .now) _ _ _ _ _ _ (rw (the-pre) at (the-read .ensures)) (the-if1 .taken))
 
-close-requires : tie.Need-close-requires
-close-requires c κs = search needs
-
 pack-requires-2 : tie.Need-pack-requires-2
 pack-requires-2 c κs =
     let the-args = c .before .before .before .before .before .before .before .before .before .before .before .before .before .before .before .before .before .before .before .before .before .before .before .before .before .before .before .before .before .before .before .before .before .before .before .before .args in
@@ -47,18 +29,6 @@ pack-requires-2 c κs =
     let the-if1 = c .before .before .before .before .before .before .before .before .before .before .before .before .before .before .before .if1 in
     let the-close = c .before .before .before .before .before .before .before .before .before .before .close in
     close-place (the-args .book .now) (the-args .out .now) _ _ _ _ _ _ (rw (the-pre) at (the-read .ensures)) (the-if1 .left) _ _ _ _ (the-close .ensures)
-
-same-length-5 : tie.Need-same-length-5
-same-length-5 c = search needs
-
-same-length-6 : tie.Need-same-length-6
-same-length-6 c = search needs
-
-same-length-7 : tie.Need-same-length-7
-same-length-7 c = search needs
-
-same-length-8 : tie.Need-same-length-8
-same-length-8 c = search needs
 
 returns-2 : tie.Need-returns-2
 returns-2 c =
@@ -71,9 +41,6 @@ returns-2 c =
     let the-if2 = c .before .if2 in
     rw (the-pack2 .ensures) (export-full (the-args .book .now) (the-args .out .now) _ _ _ _ _ _ (rw (the-pre) at (the-read .ensures)) (the-if1 .left) _ _ _ _ (the-close .ensures) (the-if2 .taken))
 
-write-requires : tie.Need-write-requires
-write-requires c κs = search needs
-
 pack-requires-3 : tie.Need-pack-requires-3
 pack-requires-3 c κs =
     let the-args = c .before .before .before .before .before .before .before .before .before .before .before .before .before .before .before .before .before .before .before .before .before .before .before .before .before .before .before .before .before .before .before .before .before .before .before .before .before .before .before .before .before .before .before .before .before .before .args in
@@ -84,9 +51,6 @@ pack-requires-3 c κs =
     let the-if2 = c .before .before .before .before .before .before .before .before .before .before .if2 in
     let the-write = c .before .before .before .before .write in
     write-place (the-args .book .now) (the-args .out .now) _ _ _ _ _ _ (rw (the-pre) at (the-read .ensures)) (the-if1 .left) _ _ _ _ (the-close .ensures) (the-if2 .left) _ _ _ _ (the-write .ensures)
-
-same-length-9 : tie.Need-same-length-9
-same-length-9 c = search needs
 
 same-length-10 : tie.Need-same-length-10
 same-length-10 c =
@@ -137,9 +101,6 @@ pack-requires-4 c κs =
     let the-if3 = c .if3 in
     size-small (the-args .book .now) (the-args .out .now) _ _ _ _ _ _ (rw (the-pre) at (the-read .ensures)) (the-if1 .left) _ _ _ _ (the-close .ensures) (the-if2 .left) _ _ _ _ (the-write .ensures) (the-if3 .left)
 
-same-length-14 : tie.Need-same-length-14
-same-length-14 c = search needs
-
 same-length-15 : tie.Need-same-length-15
 same-length-15 c =
     let the-close = c .before .before .before .before .before .before .before .before .before .before .before .before .before .before .before .before .before .before .before .before .before .close in
@@ -181,30 +142,30 @@ pub close-into-spec : {M : Type 1} → statement M
 close-into-spec =
     tie.close
     (tie.spec
-    read-requires
+    (λ c κs. search needs)
     pack-requires
-    same-length
-    same-length-2
-    same-length-3
-    same-length-4
+    (λ c. search needs)
+    (λ c. search needs)
+    (λ c. search needs)
+    (λ c. search needs)
     returns
-    close-requires
+    (λ c κs. search needs)
     pack-requires-2
-    same-length-5
-    same-length-6
-    same-length-7
-    same-length-8
+    (λ c. search needs)
+    (λ c. search needs)
+    (λ c. search needs)
+    (λ c. search needs)
     returns-2
-    write-requires
+    (λ c κs. search needs)
     pack-requires-3
-    same-length-9
+    (λ c. search needs)
     same-length-10
     same-length-11
     same-length-12
     same-length-13
     returns-3
     pack-requires-4
-    same-length-14
+    (λ c. search needs)
     same-length-15
     same-length-16
     same-length-17

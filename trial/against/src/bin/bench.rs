@@ -6,9 +6,9 @@
 //! the plainest way (every conclusion of every rule, round by round), which is what the proved
 //! closing does at most.
 
-use against::runs::Running;
+use against::running::Running;
 use against::stored_questions::{ann, con, holder, triple, var, BOTH, EITHER};
-use against::{asking, baseline, calls, questions};
+use against::{asking, baseline, calls, records};
 use std::hint::black_box;
 use std::time::Instant;
 use trial::steps::{Step, ANNS, MOST_ANSWERS, MOST_STEPS, TERMS};
@@ -202,7 +202,7 @@ fn measure_reading(rows: u16) {
 }
 
 fn measure_compiling(name: &str, bytes: &[u8]) {
-    let mut records = questions::marked(MOST_STEPS);
+    let mut records = records::marked(MOST_STEPS);
     let mut steps = vec![Step::default(); MOST_STEPS];
     let proved = best(|| {
         black_box(calls::compile(1, black_box(bytes), &mut records));

@@ -32,7 +32,7 @@ returns c =
     let the-field = c .before .before .before .field in
     let the-no-content3 = c .no-content3 in
     let the-if1 = c .before .if1 in
-    field-by-head (the-args .kind) (the-args .book .now) (the-args .at) _ _ (is-whole (the-args .book .now) (the-args .at) _ _ (sym (the-field .given .1) ∙ the-pre .1)) _ _ (the-no-content3 .ensures) (the-if1 .taken)
+    field-by-head (the-args .kind) (the-args .book .now) (the-args .at) _ _ (is-whole (the-args .book .now) (the-args .at) _ _ (sym (the-field .given .1) ∙ the-pre .1)) _ (the-no-content3 .ensures) (the-if1 .taken)
 
 no-content-requires-4 : tie.Need-no-content-requires-4
 no-content-requires-4 c κs = search needs
@@ -45,7 +45,7 @@ returns-2 c =
     let the-if1 = c .before .before .if1 in
     let the-no-content4 = c .no-content4 in
     let the-if2 = c .before .if2 in
-    field-by-tag (the-args .kind) (the-args .book .now) (the-args .at) _ _ (is-whole (the-args .book .now) (the-args .at) _ _ (sym (the-field .given .1) ∙ the-pre .1)) (the-if1 .left) _ _ (the-no-content4 .ensures) (the-if2 .taken)
+    field-by-tag (the-args .kind) (the-args .book .now) (the-args .at) _ _ (is-whole (the-args .book .now) (the-args .at) _ _ (sym (the-field .given .1) ∙ the-pre .1)) (the-if1 .left) _ (the-no-content4 .ensures) (the-if2 .taken)
 
 no-content-requires-5 : tie.Need-no-content-requires-5
 no-content-requires-5 c κs = search needs
@@ -59,7 +59,17 @@ returns-3 c =
     let the-if2 = c .before .before .if2 in
     let the-no-content5 = c .no-content5 in
     let the-if3 = c .before .if3 in
-    field-by-size (the-args .kind) (the-args .book .now) (the-args .at) _ _ (is-whole (the-args .book .now) (the-args .at) _ _ (sym (the-field .given .1) ∙ the-pre .1)) (the-if1 .left) (the-if2 .left) _ _ (the-no-content5 .ensures) (the-if3 .taken)
+    field-by-size (the-args .kind) (the-args .book .now) (the-args .at) _ _ (is-whole (the-args .book .now) (the-args .at) _ _ (sym (the-field .given .1) ∙ the-pre .1)) (the-if1 .left) (the-if2 .left) _ (the-no-content5 .ensures) (the-if3 .taken)
+
+add-triple-content : tie.Need-add-triple-content
+add-triple-content c = search needs
+
+add-triple-content-2 : tie.Need-add-triple-content-2
+add-triple-content-2 c =
+    let the-args = c .before .before .before .before .before .before .before .args in
+    let the-pre = c .before .before .before .before .before .before .before .pre in
+    let the-field = c .before .before .before .before .field in
+    let w = (is-whole (the-args .book .now) (the-args .at) _ _ (sym (the-field .given .1) ∙ the-pre .1)) in omega (arith, w .fits)
 
 triple-content-requires : tie.Need-triple-content-requires
 triple-content-requires c κs =
@@ -82,7 +92,7 @@ returns-5 c =
     let the-pre = c .before .before .before .before .pre in
     let the-no-content2 = c .no-content2 in
     let the-enum-told2 = c .before .enum-told2 in
-    field-by-cut (the-args .kind) (the-args .book .now) (the-args .at) _ _ (the-no-content2 .ensures) (is-cut (the-args .book .now) (the-args .at) (sym (the-enum-told2 .given .1) ∙ the-pre .1) .1)
+    field-by-cut (the-args .kind) (the-args .book .now) (the-args .at) _ (the-no-content2 .ensures) (is-cut (the-args .book .now) (the-args .at) (sym (the-enum-told2 .given .1) ∙ the-pre .1) .1)
 
 returns-6 : tie.Need-returns-6
 returns-6 c =
@@ -93,7 +103,7 @@ returns-6 c =
     let the-if2 = c .before .before .if2 in
     let the-if3 = c .before .if3 in
     let the-triple-content = c .triple-content in
-    field-by-content (the-args .kind) (the-args .book .now) (the-args .at) _ _ (is-whole (the-args .book .now) (the-args .at) _ _ (sym (the-field .given .1) ∙ the-pre .1)) (the-if1 .left) (the-if2 .left) _ _ (the-if3 .left) (the-triple-content .ensures)
+    field-by-content (the-args .kind) (the-args .book .now) (the-args .at) _ _ (is-whole (the-args .book .now) (the-args .at) _ _ (sym (the-field .given .1) ∙ the-pre .1)) (the-if1 .left) (the-if2 .left) _ (the-if3 .left) (the-triple-content .ensures)
 
 pub content-at-spec : {M : Type 1} → statement M
 content-at-spec =
@@ -110,6 +120,8 @@ content-at-spec =
     returns-2
     no-content-requires-5
     returns-3
+    add-triple-content
+    add-triple-content-2
     triple-content-requires
     returns-4
     returns-5

@@ -5,18 +5,12 @@ use borrow.Author.Needs.{needs}
 use Rattle.book.proofs.content.content_refusal.Statement.{statement}
 use Rattle.book.proofs.content.content_refusal.Tie as tie
 
-term-refusal-requires : tie.Need-term-refusal-requires
-term-refusal-requires c κs = search needs
-
 returns : tie.Need-returns
 returns c =
     let the-args = c .before .before .args in
     let the-term-refusal = c .before .term-refusal in
     let the-if1 = c .if1 in
     content-by-subject (the-args .kind) (row (the-args .s) (the-args .p) (the-args .o) (the-args .a)) _ (the-term-refusal .ensures) (the-if1 .taken)
-
-predicate-refusal-requires : tie.Need-predicate-refusal-requires
-predicate-refusal-requires c κs = search needs
 
 returns-2 : tie.Need-returns-2
 returns-2 c =
@@ -26,9 +20,6 @@ returns-2 c =
     let the-predicate-refusal = c .before .predicate-refusal in
     let the-if2 = c .if2 in
     content-by-predicate (the-args .kind) (row (the-args .s) (the-args .p) (the-args .o) (the-args .a)) _ (the-term-refusal .ensures) (the-if1 .left) _ (the-predicate-refusal .ensures) (the-if2 .taken)
-
-term-refusal-requires-2 : tie.Need-term-refusal-requires-2
-term-refusal-requires-2 c κs = search needs
 
 returns-3 : tie.Need-returns-3
 returns-3 c =
@@ -40,9 +31,6 @@ returns-3 c =
     let the-term-refusal2 = c .before .term-refusal2 in
     let the-if3 = c .if3 in
     content-by-object (the-args .kind) (row (the-args .s) (the-args .p) (the-args .o) (the-args .a)) _ (the-term-refusal .ensures) (the-if1 .left) _ (the-predicate-refusal .ensures) (the-if2 .left) _ (the-term-refusal2 .ensures) (the-if3 .taken)
-
-annotation-refusal-requires : tie.Need-annotation-refusal-requires
-annotation-refusal-requires c κs = search needs
 
 returns-4 : tie.Need-returns-4
 returns-4 c =
@@ -61,11 +49,11 @@ pub content-refusal-spec : {M : Type 1} → statement M
 content-refusal-spec =
     tie.close
     (tie.spec
-    term-refusal-requires
+    (λ c κs. search needs)
     returns
-    predicate-refusal-requires
+    (λ c κs. search needs)
     returns-2
-    term-refusal-requires-2
+    (λ c κs. search needs)
     returns-3
-    annotation-refusal-requires
+    (λ c κs. search needs)
     returns-4)

@@ -35,7 +35,7 @@ returns c =
     let the-field-at = c .before .before .before .before .before .field-at in
     let the-no-head3 = c .no-head3 in
     let the-if1 = c .before .if1 in
-    head-by-tag (the-args .book .now) _ _ (is-whole (the-args .book .now) 0 _ _ (sym (the-field .given .1) ∙ the-field-at .ensures)) _ _ _ (the-no-head3 .ensures) (the-if1 .taken)
+    head-by-tag (the-args .book .now) _ _ (is-whole (the-args .book .now) 0 _ _ (sym (the-field .given .1) ∙ the-field-at .ensures)) _ (the-no-head3 .ensures) (the-if1 .taken)
 
 no-head-requires-4 : tie.Need-no-head-requires-4
 no-head-requires-4 c κs = search needs
@@ -48,7 +48,14 @@ returns-2 c =
     let the-if1 = c .before .before .if1 in
     let the-no-head4 = c .no-head4 in
     let the-if2 = c .before .if2 in
-    head-by-size (the-args .book .now) _ _ (is-whole (the-args .book .now) 0 _ _ (sym (the-field .given .1) ∙ the-field-at .ensures)) (the-if1 .left) _ _ _ (the-no-head4 .ensures) (the-if2 .taken)
+    head-by-size (the-args .book .now) _ _ (is-whole (the-args .book .now) 0 _ _ (sym (the-field .given .1) ∙ the-field-at .ensures)) (the-if1 .left) _ (the-no-head4 .ensures) (the-if2 .taken)
+
+add-head-content : tie.Need-add-head-content
+add-head-content c =
+    let the-args = c .before .before .before .before .before .before .before .args in
+    let the-field = c .before .before .before .field in
+    let the-field-at = c .before .before .before .before .before .field-at in
+    let w = (is-whole (the-args .book .now) 0 _ _ (sym (the-field .given .1) ∙ the-field-at .ensures)) in omega (arith, w .fits)
 
 head-content-requires : tie.Need-head-content-requires
 head-content-requires c κs =
@@ -64,7 +71,7 @@ returns-3 c =
     let the-no-head = c .no-head in
     let the-enum-told = c .before .enum-told in
     let the-field-at = c .before .before .before .field-at in
-    head-empty (the-args .book .now) _ _ _ (the-no-head .ensures) (is-end (the-args .book .now) 0 (sym (the-enum-told .given .1) ∙ the-field-at .ensures))
+    head-empty (the-args .book .now) _ (the-no-head .ensures) (is-end (the-args .book .now) 0 (sym (the-enum-told .given .1) ∙ the-field-at .ensures))
 
 returns-4 : tie.Need-returns-4
 returns-4 c =
@@ -73,7 +80,7 @@ returns-4 c =
     let the-field-at = c .before .before .before .field-at in
     let the-no-head2 = c .no-head2 in
     let w = is-cut (the-args .book .now) 0 (sym (the-enum-told2 .given .1) ∙ the-field-at .ensures) in
-    head-cut (the-args .book .now) (w .0) _ _ _ (the-no-head2 .ensures) (w .1)
+    head-cut (the-args .book .now) (w .0) _ (the-no-head2 .ensures) (w .1)
 
 returns-5 : tie.Need-returns-5
 returns-5 c =
@@ -83,7 +90,7 @@ returns-5 c =
     let the-if1 = c .before .before .if1 in
     let the-if2 = c .before .if2 in
     let the-head-content = c .head-content in
-    head-by-content (the-args .book .now) _ _ (is-whole (the-args .book .now) 0 _ _ (sym (the-field .given .1) ∙ the-field-at .ensures)) (the-if1 .left) _ _ _ (the-if2 .left) (the-head-content .ensures)
+    head-by-content (the-args .book .now) _ _ (is-whole (the-args .book .now) 0 _ _ (sym (the-field .given .1) ∙ the-field-at .ensures)) (the-if1 .left) _ (the-if2 .left) (the-head-content .ensures)
 
 pub head-of-spec : {M : Type 1} → statement M
 head-of-spec =
@@ -99,6 +106,7 @@ head-of-spec =
     returns
     no-head-requires-4
     returns-2
+    add-head-content
     head-content-requires
     returns-3
     returns-4

@@ -7,33 +7,6 @@ use borrow.Author.Needs.{needs}
 use Rattle.book.proofs.content.triple_content.Statement.{statement}
 use Rattle.book.proofs.content.triple_content.Tie as tie
 
-add-two : tie.Need-add-two
-add-two c = search needs
-
-two-requires : tie.Need-two-requires
-two-requires c κs = search needs
-
-add-two-2 : tie.Need-add-two-2
-add-two-2 c = search needs
-
-two-requires-2 : tie.Need-two-requires-2
-two-requires-2 c κs = search needs
-
-add-two-3 : tie.Need-add-two-3
-add-two-3 c = search needs
-
-two-requires-3 : tie.Need-two-requires-3
-two-requires-3 c κs = search needs
-
-add-eight : tie.Need-add-eight
-add-eight c = search needs
-
-eight-requires : tie.Need-eight-requires
-eight-requires c κs = search needs
-
-content-refusal-requires : tie.Need-content-refusal-requires
-content-refusal-requires c κs = search needs
-
 returns : tie.Need-returns
 unfolding rowIn
 returns c =
@@ -45,19 +18,19 @@ returns c =
     let the-content-refusal = c .content-refusal in
     let e : row (the-two .result) (the-two2 .result) (the-two3 .result) (the-eight .result) ≡ rowIn (the-args .book .now) (the-args .at)
     = rw (the-two .ensures, the-two2 .ensures, the-two3 .ensures, the-eight .ensures) refl in
-    record { number-is = the-content-refusal .ensures ∙ ap (λ (r : Row). first (contentChecks (the-args .kind) r 0) .number) e; row-is = e }
+    record { number-is = the-content-refusal .ensures ∙ ap (λ (r : Row). first (contentChecks (the-args .kind) r 0) .number) e; row-is = e; next-is = refl }
 
 pub triple-content-spec : {M : Type 1} → statement M
 triple-content-spec =
     tie.close
     (tie.spec
-    add-two
-    two-requires
-    add-two-2
-    two-requires-2
-    add-two-3
-    two-requires-3
-    add-eight
-    eight-requires
-    content-refusal-requires
+    (λ c. search needs)
+    (λ c κs. search needs)
+    (λ c. search needs)
+    (λ c κs. search needs)
+    (λ c. search needs)
+    (λ c κs. search needs)
+    (λ c. search needs)
+    (λ c κs. search needs)
+    (λ c κs. search needs)
     returns)

@@ -5,16 +5,13 @@ use borrow.Author.Needs.{needs}
 use Rattle.book.proofs.fields.read_field.Statement.{statement}
 use Rattle.book.proofs.fields.read_field.Tie as tie
 
-content-at-requires : tie.Need-content-at-requires
-content-at-requires c κs = search needs
-
 returns : tie.Need-returns
 returns c =
     let the-args = c .before .before .before .before .before .before .before .before .args in
     let the-pre = c .before .before .before .before .before .before .before .before .pre in
     let the-content-at = c .before .before .content-at in
     let the-if1 = c .if1 in
-    field-refused (the-args .kind) (the-args .book .now) (the-args .at) (lanes (the-args .subj .now) (the-args .pred .now) (the-args .obj .now) (the-args .ann .now)) (the-args .count) (the-pre .0) _ _ (the-content-at .ensures) (the-if1 .taken)
+    field-refused (the-args .kind) (the-args .book .now) (the-args .at) (lanes (the-args .subj .now) (the-args .pred .now) (the-args .obj .now) (the-args .ann .now)) (the-args .count) (the-pre .0) _ (the-content-at .ensures) (the-args .at) (the-if1 .taken)
 
 put-found-requires : tie.Need-put-found-requires
 put-found-requires c κs =
@@ -22,22 +19,7 @@ put-found-requires c κs =
     let the-pre = c .before .before .before .before .before .before .before .before .before .before .before .before .pre in
     let the-content-at = c .before .before .before .before .before .before .content-at in
     let the-if1 = c .before .before .before .before .if1 in
-    field-ready (the-args .kind) (the-args .book .now) (the-args .at) (lanes (the-args .subj .now) (the-args .pred .now) (the-args .obj .now) (the-args .ann .now)) (the-args .count) (the-pre .0) _ _ (the-content-at .ensures) (the-if1 .left)
-
-room-number-requires : tie.Need-room-number-requires
-room-number-requires c κs = search needs
-
-same-length : tie.Need-same-length
-same-length c = search needs
-
-same-length-2 : tie.Need-same-length-2
-same-length-2 c = search needs
-
-same-length-3 : tie.Need-same-length-3
-same-length-3 c = search needs
-
-same-length-4 : tie.Need-same-length-4
-same-length-4 c = search needs
+    field-ready (the-args .kind) (the-args .book .now) (the-args .at) (lanes (the-args .subj .now) (the-args .pred .now) (the-args .obj .now) (the-args .ann .now)) (the-args .count) (the-pre .0) _ (the-content-at .ensures) (the-if1 .left)
 
 returns-2 : tie.Need-returns-2
 returns-2 c =
@@ -47,18 +29,18 @@ returns-2 c =
     let the-if1 = c .before .before .before .before .before .before .before .before .before .before .before .before .before .before .if1 in
     let the-put = c .before .before .before .before .before .before .before .before .before .put-found in
     let the-room-number = c .room-number in
-    field-put (the-args .kind) (the-args .book .now) (the-args .at) (lanes (the-args .subj .now) (the-args .pred .now) (the-args .obj .now) (the-args .ann .now)) (the-args .count) (the-pre .0) _ _ (the-content-at .ensures) (the-if1 .left) _ (the-put .result .full) (the-put .result .changed) _ _ (the-put .ensures) (the-room-number .ensures)
+    field-put (the-args .kind) (the-args .book .now) (the-args .at) (lanes (the-args .subj .now) (the-args .pred .now) (the-args .obj .now) (the-args .ann .now)) (the-args .count) (the-pre .0) _ (the-content-at .ensures) (the-if1 .left) _ (the-put .result .full) (the-put .result .changed) _ _ (the-put .ensures) (the-room-number .ensures)
 
 pub read-field-spec : {M : Type 1} → statement M
 read-field-spec =
     tie.close
     (tie.spec
-    content-at-requires
+    (λ c κs. search needs)
     returns
     put-found-requires
-    room-number-requires
-    same-length
-    same-length-2
-    same-length-3
-    same-length-4
+    (λ c κs. search needs)
+    (λ c. search needs)
+    (λ c. search needs)
+    (λ c. search needs)
+    (λ c. search needs)
     returns-2)

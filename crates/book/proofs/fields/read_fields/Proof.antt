@@ -70,7 +70,7 @@ use Rattle.book.specs.Inner.{FieldPut, Fresh, Reached, FieldsRead}
 use Rattle.book.specs.declared.fields.FieldDone.{FieldDone}
 use Rattle.book.specs.declared.fields.FieldsDone.{FieldsDone}
 use Rattle.book.proofs.LentOn.{Names, Held, AllLent, AllKept, AsLong, lanes-out}
-use Rattle.book.proofs.FieldByField.{reached-start, reached-into, reached-step, reached-stop, reached-end}
+use Rattle.book.proofs.FieldByField.{reached-start, reached-into, reached-on, reached-step, reached-stop, reached-end}
 use Rattle.book.proofs.fields.FieldDone as D
 use Rattle.book.proofs.fields.FieldDone.Laws as D′
 use Rattle.book.proofs.fields.FieldsDone as F
@@ -86,7 +86,7 @@ use Rattle.book.proofs.fields.read_fields.Code as code
 use Rattle.book.proofs.fields.read_fields.Code.Mir as body
 
 abbrev stayed : Stays (f.ended .signature .params) (f.ended .kept)
-stayed = (stay-none (λ _. u8) yes, (stay-none-slice (0 ∷ []) tt (plain (λ _. u8)) yes, (stay-slice (1 ∷ []) tt (plain (λ _. u16)), (stay-slice (2 ∷ []) tt (plain (λ _. u16)), (stay-slice (3 ∷ []) tt (plain (λ _. u16)), (stay-slice (4 ∷ []) tt (plain (λ _. u64)), tt))))))
+stayed = (stay-none (λ _. u8) yes, (stay-none-slice (0 ∷ []) tt (plain (λ _. u8)) yes, (stay-none (λ _. usize) yes, (stay-slice (1 ∷ []) tt (plain (λ _. u16)), (stay-slice (2 ∷ []) tt (plain (λ _. u16)), (stay-slice (3 ∷ []) tt (plain (λ _. u16)), (stay-slice (4 ∷ []) tt (plain (λ _. u64)), tt)))))))
 
 module _ {M : Type 1} (𝓤 : URA M) (H : Heap 𝓤) (A : Atoms 𝓤) (mem : Memory → SProp 𝓤) (run : Routine → Fun 𝓤) where
   -- the contracts that the proof cites
@@ -103,21 +103,21 @@ module _ {M : Type 1} (𝓤 : URA M) (H : Heap 𝓤) (A : Atoms 𝓤) (mem : Mem
   Moved = tripleOf 𝓤 H A moved.signature (moved.spec 𝓤 H A mem run)
 
 -- how far the reading is: the reader's place, the rows, the lanes
-record Here (kind : ℕ) (bytes : List ℕ) (subj pred obj ann : RefT (List ℕ)) : Type 0 where
+record Here (kind : ℕ) (bytes : List ℕ) (start : ℕ) (subj pred obj ann : RefT (List ℕ)) : Type 0 where
   at : ℕ
   count : ℕ
   m : Lanes
   at-fits : at < 2 ^ 64
   count-fits : count < 2 ^ 64
   as-long : AsLong subj pred obj ann m
-  reached : Reached kind bytes (lanes (subj .now) (pred .now) (obj .now) (ann .now)) m at count
+  reached : Reached kind bytes start (lanes (subj .now) (pred .now) (obj .now) (ann .now)) m at count
 
-module _ {M : Type 1} (𝓤 : URA M) (H : Heap 𝓤) (A : Atoms 𝓤) (W : Given 𝓤 H A) (mem : Memory → SProp 𝓤) (run : Routine → Fun 𝓤) (κ₀ κ₁ κ₂ κ₃ κ₄ : Lft) (q₀ q₁ q₂ q₃ q₄ : Share) (kind : ℕ) (book subj pred obj ann : RefT (List ℕ)) (fits-kind : kind < 2 ^ 8) (room-book : Room u8 (length (book .now))) (room-subj : Room u16 (length (subj .now))) (room-pred : Room u16 (length (pred .now))) (room-obj : Room u16 (length (obj .now))) (room-ann : Room u64 (length (ann .now))) (fresh : Fresh kind (lanes (subj .now) (pred .now) (obj .now) (ann .now))) where
+module _ {M : Type 1} (𝓤 : URA M) (H : Heap 𝓤) (A : Atoms 𝓤) (W : Given 𝓤 H A) (mem : Memory → SProp 𝓤) (run : Routine → Fun 𝓤) (κ₀ κ₁ κ₂ κ₃ κ₄ : Lft) (q₀ q₁ q₂ q₃ q₄ : Share) (kind : ℕ) (book : RefT (List ℕ)) (start : ℕ) (subj pred obj ann : RefT (List ℕ)) (fits-kind : kind < 2 ^ 8) (fits-start : start < 2 ^ 64) (room-book : Room u8 (length (book .now))) (room-subj : Room u16 (length (subj .now))) (room-pred : Room u16 (length (pred .now))) (room-obj : Room u16 (length (obj .now))) (room-ann : Room u64 (length (ann .now))) (fresh : Fresh kind (lanes (subj .now) (pred .now) (obj .now) (ann .now))) where
   abbrev bytes : List ℕ
   bytes = book .now
 
   abbrev here : Type 0
-  here = Here kind bytes subj pred obj ann
+  here = Here kind bytes start subj pred obj ann
 
   abbrev l : Lanes
   l = lanes (subj .now) (pred .now) (obj .now) (ann .now)
@@ -135,10 +135,10 @@ module _ {M : Type 1} (𝓤 : URA M) (H : Heap 𝓤) (A : Atoms 𝓤) (W : Given
   qs = (q₀, (q₁, (q₂, (q₃, (q₄, tt)))))
 
   abbrev a : Args f.signature κs
-  a = (kind, (book, (subj, (pred, (obj, (ann, tt))))))
+  a = (kind, (book, (start, (subj, (pred, (obj, (ann, tt)))))))
 
   abbrev vals : Vals f.signature κs
-  vals = (vint w8 kind ∷ [], (vb ∷ [], (val subj ∷ [], (val pred ∷ [], (val obj ∷ [], (val ann ∷ [], tt))))))
+  vals = (vint w8 kind ∷ [], (vb ∷ [], (vint w64 start ∷ [], (val subj ∷ [], (val pred ∷ [], (val obj ∷ [], (val ann ∷ [], tt)))))))
 
   abbrev Post : Val → SProp 𝓤
   Post = walkOf 𝓤 H A f.ended stayed (f.clauses 𝓤 H A mem run) .post ((κs, qs, tt, a, vals), tt)
@@ -154,14 +154,14 @@ module _ {M : Type 1} (𝓤 : URA M) (H : Heap 𝓤) (A : Atoms 𝓤) (W : Given
   All = ‵ (flft κ₀ q₀) ⊛ ‵ (flft κ₁ q₁) ⊛ ‵ (flft κ₂ q₂) ⊛ ‵ (flft κ₃ q₃) ⊛ ‵ (flft κ₄ q₄) ⊛ ‵ ftrue
 
   abbrev Owned : Fml
-  Owned = owns (u8 ∷ ShrSlice (named 0) κ₀ u8 ∷ MutSlice (named 1) κ₁ u16 ∷ MutSlice (named 2) κ₂ u16 ∷ MutSlice (named 3) κ₃ u16 ∷ MutSlice (named 4) κ₄ u64 ∷ []) a vals
+  Owned = owns (u8 ∷ ShrSlice (named 0) κ₀ u8 ∷ usize ∷ MutSlice (named 1) κ₁ u16 ∷ MutSlice (named 2) κ₂ u16 ∷ MutSlice (named 3) κ₃ u16 ∷ MutSlice (named 4) κ₄ u64 ∷ []) a vals
 
   -- what is had on entry, sorted
   parts : ent 𝓤 (⋆ 𝓤 H A (All ∷ ‵ Owned ∷ [])) (⋆ 𝓤 H A (‵ Tok ∷ ‵ Book ∷ ‵ (held l) ∷ []))
   parts =
-      qed W (All ∷ ‵ Owned ∷ []) ∵ split ! $ move ! (2 ∷ []) $ fsplit ! $ drop ! $ fsplit ! $
-      -- [the bytes; the lanes; the bytes' token; the lanes' tokens]
-      move ! (1 ∷ []) $ fsplit ! $ move ! (4 ∷ []) $ split ! $ move ! (0 ∷ 2 ∷ []) $ fjoin ! $
+      qed W (All ∷ ‵ Owned ∷ []) ∵ split ! $ move ! (2 ∷ []) $ fsplit ! $ drop ! $ fsplit ! $ move ! (1 ∷ []) $ fsplit ! $ drop ! $
+      -- [the lanes; the bytes; the bytes' token; the lanes' tokens]
+      fsplit ! $ move ! (4 ∷ []) $ split ! $ move ! (0 ∷ 2 ∷ []) $ fjoin ! $
       -- [subj; the other tokens; the other lanes; the bytes; the bytes' token]
       move ! (2 ∷ []) $ fsplit ! $ move ! (3 ∷ []) $ split ! $ move ! (0 ∷ 2 ∷ []) $ fjoin ! $
       move ! (2 ∷ []) $ fsplit ! $ move ! (3 ∷ []) $ split ! $ move ! (0 ∷ 2 ∷ []) $ fjoin ! $
@@ -202,14 +202,14 @@ module _ {M : Type 1} (𝓤 : URA M) (H : Heap 𝓤) (A : Atoms 𝓤) (W : Given
 
   -- ---- `stand`
   abbrev to-stand : Stand 𝓤 H A mem run .Ghost
-  to-stand = (((κ₀, tt), (q₀, tt), tt, (book, (7, tt)), (vb ∷ [], (vint w64 7 ∷ [], tt))), tt)
+  to-stand = (((κ₀, tt), (q₀, tt), tt, (book, (start, tt)), (vb ∷ [], (vint w64 start ∷ [], tt))), tt)
 
   goes-stand : ent 𝓤 (⋆ 𝓤 H A (‵ Tok ∷ ‵ Book ∷ [])) (Stand 𝓤 H A mem run .pre to-stand)
   goes-stand =
-      qed W (‵ Tok ∷ ‵ Book ∷ []) ∵ nothing ! $ move ! (1 ∷ 0 ∷ []) $ join ! $ nothing ! $ owned ! usize (Is usize) (uint-makes 𝓤 H A W w64) 7 (vint w64 7 ∷ []) (refl, lit< tt) $ fjoin ! $ move ! (2 ∷ 0 ∷ []) $ fjoin ! $ move ! (1 ∷ 0 ∷ []) $ join ! $ frame ! $ done !
+      qed W (‵ Tok ∷ ‵ Book ∷ []) ∵ nothing ! $ move ! (1 ∷ 0 ∷ []) $ join ! $ nothing ! $ owned ! usize (Is usize) (uint-makes 𝓤 H A W w64) start (vint w64 start ∷ []) (refl, fits-start) $ fjoin ! $ move ! (2 ∷ 0 ∷ []) $ fjoin ! $ move ! (1 ∷ 0 ∷ []) $ join ! $ frame ! $ done !
 
-  stand-said : (r : Reader) → ent 𝓤 (ensured 𝓤 H A stand.ended (stand.clauses 𝓤 H A mem run) (κ₀, tt) (book, (7, tt)) tt r) (fact 𝓤 (Stands r 7))
-  stand-said r = exE 𝓤 _ (λ ws. snd∗ 𝓤 (sem 𝓤 H A (lasts stand.ended (κ₀, tt) (book, (7, tt)) ws)) (fact 𝓤 (Stands r 7)))
+  stand-said : (r : Reader) → ent 𝓤 (ensured 𝓤 H A stand.ended (stand.clauses 𝓤 H A mem run) (κ₀, tt) (book, (start, tt)) tt r) (fact 𝓤 (Stands r start))
+  stand-said r = exE 𝓤 _ (λ ws. snd∗ 𝓤 (sem 𝓤 H A (lasts stand.ended (κ₀, tt) (book, (start, tt)) ws)) (fact 𝓤 (Stands r start)))
 
   -- ---- `field`, at the place n
   abbrev to-field : ℕ → FieldThere 𝓤 H A mem run .Ghost
@@ -256,7 +256,7 @@ module _ {M : Type 1} (𝓤 : URA M) (H : Heap 𝓤) (A : Atoms 𝓤) (W : Given
 
     asks-read : Is S.the-row t (u ∷ []) → x .at < length bytes → t ≡ fieldAt bytes (x .at) → ent 𝓤 (⋆ 𝓤 H A (‵ Tok ∷ ‵ Book ∷ ‵ lent ∷ [])) (ReadField 𝓤 H A mem run .pre to-read)
     asks-read gt less e =
-        qed W (‵ Tok ∷ ‵ Book ∷ ‵ lent ∷ []) ∵ says ! (reached-into kind bytes l (x .m) (x .at) (x .count) (x .reached) less, e) $
+        qed W (‵ Tok ∷ ‵ Book ∷ ‵ lent ∷ []) ∵ says ! (reached-into kind bytes start l (x .m) (x .at) (x .count) (x .reached) less, e) $
         move ! (2 ∷ []) $ fsplit ! $ fsplit ! $ move ! (2 ∷ []) $ fsplit ! $ fsplit ! $ move ! (2 ∷ []) $ fsplit ! $ fsplit ! $ move ! (2 ∷ []) $ fsplit ! $
         -- [token, slice: ann; obj; pred; subj; the bytes]
         nothing ! $ move ! (1 ∷ 0 ∷ []) $ join ! $ move ! (2 ∷ 0 ∷ []) $ join ! $ move ! (3 ∷ 0 ∷ []) $ join ! $ move ! (4 ∷ 0 ∷ []) $ join ! $ move ! (5 ∷ 0 ∷ []) $ join ! $ frame ! $
@@ -269,7 +269,7 @@ module _ {M : Type 1} (𝓤 : URA M) (H : Heap 𝓤) (A : Atoms 𝓤) (W : Given
 
     -- what is said of the lanes that it left
     abbrev Put : FieldDone → Lanes → Type 0
-    Put r m = FieldPut kind bytes (x .at) (x .m) (x .count) m (r .number) (r .count)
+    Put r m = FieldPut kind bytes (x .at) (x .m) (x .count) m r
 
     abbrev Told : FieldDone → Lanes → Type 0
     Told r m = Put r m × AsLong subj pred obj ann m
@@ -295,15 +295,15 @@ module _ {M : Type 1} (𝓤 : URA M) (H : Heap 𝓤) (A : Atoms 𝓤) (W : Given
         move ! (1 ∷ 0 ∷ []) $ fjoin ! $ move ! (1 ∷ 0 ∷ []) $ fjoin ! $ move ! (1 ∷ 0 ∷ []) $ fjoin ! $ keep ! (2 ∷ 0 ∷ []) $ done !))))))
 
   -- ---- at exit
-  exits : (r : FieldsDone) (m : Lanes) → Is F.the-row r (F′.lowered r ∷ []) → AsLong subj pred obj ann m → FieldsRead kind bytes l m (r .number) (r .place) (r .count)
+  exits : (r : FieldsDone) (m : Lanes) → Is F.the-row r (F′.lowered r ∷ []) → AsLong subj pred obj ann m → FieldsRead kind bytes start l m r
       → ent 𝓤 (⋆ 𝓤 H A (‵ Tok ∷ ‵ Book ∷ ‵ (held m) ∷ [])) (Post (F′.lowered r))
   exits r m gr long e =
       qed W (‵ Tok ∷ ‵ Book ∷ ‵ (held m) ∷ []) ∵
-      suffices ! _ (ends-at 𝓤 H A f.ended stayed (f.clauses 𝓤 H A mem run) W ((κs, qs, tt, a, vals), tt) (F′.lowered r) r (tt, (tt, (m .subj, (m .pred, (m .obj, (m .ann, tt)))))) (tt, (tt, (long .0, (long .1, (long .2, (long .3, tt))))))) $ says ! e $
+      suffices ! _ (ends-at 𝓤 H A f.ended stayed (f.clauses 𝓤 H A mem run) W ((κs, qs, tt, a, vals), tt) (F′.lowered r) r (tt, (tt, (tt, (m .subj, (m .pred, (m .obj, (m .ann, tt))))))) (tt, (tt, (tt, (long .0, (long .1, (long .2, (long .3, tt)))))))) $ says ! e $
       move ! (2 ∷ []) $ fsplit ! $ fsplit ! $ move ! (2 ∷ []) $ fsplit ! $ fsplit ! $ move ! (2 ∷ []) $ fsplit ! $ fsplit ! $ move ! (2 ∷ []) $ fsplit ! $
       -- [token, slice: ann; obj; pred; subj; the bytes]
       nothing ! $ move ! (1 ∷ 0 ∷ []) $ join ! $ move ! (2 ∷ 0 ∷ []) $ join ! $ move ! (3 ∷ 0 ∷ []) $ join ! $ move ! (4 ∷ 0 ∷ []) $ join ! $ move ! (5 ∷ 0 ∷ []) $ join ! $ frame ! $
-      nothing ! $ move ! (1 ∷ 0 ∷ []) $ fjoin ! $ move ! (1 ∷ 0 ∷ []) $ fjoin ! $ move ! (1 ∷ 0 ∷ []) $ fjoin ! $ move ! (1 ∷ 0 ∷ []) $ fjoin ! $ move ! (1 ∷ 0 ∷ []) $ fjoin ! $
+      nothing ! $ move ! (1 ∷ 0 ∷ []) $ fjoin ! $ move ! (1 ∷ 0 ∷ []) $ fjoin ! $ move ! (1 ∷ 0 ∷ []) $ fjoin ! $ move ! (1 ∷ 0 ∷ []) $ fjoin ! $ owned ! usize (Is usize) (uint-makes 𝓤 H A W w64) start (vint w64 start ∷ []) (refl, fits-start) $ fjoin ! $ move ! (1 ∷ 0 ∷ []) $ fjoin ! $
       owned ! u8 (Is u8) (uint-makes 𝓤 H A W w8) kind (vint w8 kind ∷ []) (refl, fits-kind) $ fjoin ! $ frame ! $ owned ! F.the-row (Is F.the-row) (LL.makes F.the-type F′.the-plain 𝓤 H A) r (F′.lowered r ∷ []) gr $ done !
 
   done-is : (r : FieldsDone) → r .number < 2 ^ 8 → r .place < 2 ^ 64 → r .count < 2 ^ 64 → Is F.the-row r (F′.lowered r ∷ [])
@@ -313,16 +313,16 @@ module _ {M : Type 1} (𝓤 : URA M) (H : Heap 𝓤) (A : Atoms 𝓤) (W : Given
   abbrev Before : here → here → Type 0
   Before y x = Nearer (length bytes) (y .at) (x .at)
 
-  abbrev start : here
-  start = record { at = 7; count = 0; m = l; at-fits = lit< tt; count-fits = lit< tt; as-long = (refl, refl, refl, refl); reached = reached-start kind bytes l fresh }
+  abbrev at-start : here
+  at-start = record { at = start; count = 0; m = l; at-fits = fits-start; count-fits = lit< tt; as-long = (refl, refl, refl, refl); reached = reached-start kind bytes start l fresh }
 
   -- a field on
-  module _ (x : here) (less : x .at < length bytes) (r : FieldDone) (m : Lanes) (e : FieldPut kind bytes (x .at) (x .m) (x .count) m (r .number) (r .count)) (none : r .number ≤ 0) where
-    on-fits : x .at + 17 < 2 ^ 64
-    on-fits = omega (arith, e .whole (omega arith), room-book .0)
+  module _ (x : here) (less : x .at < length bytes) (r : FieldDone) (m : Lanes) (e : FieldPut kind bytes (x .at) (x .m) (x .count) m r) (none : r .number ≤ 0) where
+    abbrev on : r .next < 2 ^ 64 → r .count < 2 ^ 64 → AsLong subj pred obj ann m → here
+    on fits fits-count long = record { at = r .next; count = r .count; m = m; at-fits = fits; count-fits = fits-count; as-long = long; reached = reached-step kind bytes start l (x .m) (x .at) (x .count) (x .reached) less m r e none }
 
-    abbrev on : r .count < 2 ^ 64 → AsLong subj pred obj ann m → here
-    on fits long = record { at = x .at + 17; count = r .count; m = m; at-fits = on-fits; count-fits = fits; as-long = long; reached = reached-step kind bytes l (x .m) (x .at) (x .count) (x .reached) less m (r .number) (r .count) e none }
+    nearer : Nearer (length bytes) (r .next) (x .at)
+    nearer = omega (arith, reached-on kind bytes start l (x .m) (x .at) (x .count) (x .reached) less m r e none)
 
   module _ (𝓣 : Tables 𝓤 H) (known-stand : Triple 𝓤 (𝓣 .C #stand) (Stand 𝓤 H A mem run)) (known-field : Triple 𝓤 (𝓣 .C #field) (FieldThere 𝓤 H A mem run)) (known-read : Triple 𝓤 (𝓣 .C #read-field) (ReadField 𝓤 H A mem run)) (known-moved : Triple 𝓤 (𝓣 .C #moved) (Moved 𝓤 H A mem run)) where
     abbrev C : Calls 𝓤 H
@@ -340,37 +340,39 @@ module _ {M : Type 1} (𝓤 : URA M) (H : Heap 𝓤) (A : Atoms 𝓤) (W : Given
     abbrev laneT : Lifetime → Width → Ty
     laneT ℓ w = sliceTy (tyRef ℓ mut (tyInt w))
 
+    abbrev laneP : Width → Ty
+    laneP w = tyRef erased mut (tyInt w)
+
     abbrev readerT : Ty
     readerT = T′.mir erased
 
+    -- a local that is room, and one that holds a value
+    abbrev room : Ty → ℕ → List (Item 𝓤) → List (Item 𝓤)
+    room τ l Γ = ‵ (froom τ l 0) ∷ ‵ (fdies τ l) ∷ Γ
+
+    abbrev holds : Ty → ℕ → Val → List (Item 𝓤) → List (Item 𝓤)
+    holds τ l v Γ = ‵ (fat fullShare τ l 0 v) ∷ ‵ (fdies τ l) ∷ Γ
+
     module _ (l₀ l₁ l₂ l₃ l₄ l₅ l₆ l₇ l₈ l₉ l₁₀ l₁₁ l₁₂ l₁₃ l₁₄ l₁₅ l₁₆ l₁₇ l₁₈ l₁₉ l₂₀ l₂₁ l₂₂ l₂₃ l₂₄ l₂₅ l₂₆ l₂₇ : ℕ) where
       abbrev En : Env 𝓤 H
-      En = (F′.mir, l₀) ∷ (tyInt w8, l₁) ∷ (bytesT (named 0), l₂) ∷ (laneT (named 1) w16, l₃) ∷ (laneT (named 2) w16, l₄) ∷ (laneT (named 3) w16, l₅) ∷ (laneT (named 4) w64, l₆) ∷ (readerT, l₇) ∷ (word, l₈) ∷ (S′.mir, l₉) ∷ (D′.mir, l₁₀) ∷ (word, l₁₁) ∷ (word, l₁₂) ∷ (tyBool, l₁₃) ∷ (readerT, l₁₄) ∷ (bytesT erased, l₁₅) ∷ (word, l₁₆) ∷ (tyRef erased mut (tyInt w16), l₁₇) ∷ (laneT erased w16, l₁₈) ∷ (tyRef erased mut (tyInt w16), l₁₉) ∷ (laneT erased w16, l₂₀) ∷ (tyRef erased mut (tyInt w16), l₂₁) ∷ (laneT erased w16, l₂₂) ∷ (tyRef erased mut (tyInt w64), l₂₃) ∷ (laneT erased w64, l₂₄) ∷ (word, l₂₅) ∷ (readerT, l₂₆) ∷ (word, l₂₇) ∷ []
+      En = (F′.mir, l₀) ∷ (tyInt w8, l₁) ∷ (bytesT (named 0), l₂) ∷ (word, l₃) ∷ (laneT (named 1) w16, l₄) ∷ (laneT (named 2) w16, l₅) ∷ (laneT (named 3) w16, l₆) ∷ (laneT (named 4) w64, l₇) ∷ (readerT, l₈) ∷ (word, l₉) ∷ (S′.mir, l₁₀) ∷ (D′.mir, l₁₁) ∷ (word, l₁₂) ∷ (word, l₁₃) ∷ (tyBool, l₁₄) ∷ (readerT, l₁₅) ∷ (bytesT erased, l₁₆) ∷ (word, l₁₇)
+          ∷ (laneP w16, l₁₈) ∷ (laneT erased w16, l₁₉) ∷ (laneP w16, l₂₀) ∷ (laneT erased w16, l₂₁) ∷ (laneP w16, l₂₂) ∷ (laneT erased w16, l₂₃) ∷ (laneP w64, l₂₄) ∷ (laneT erased w64, l₂₅) ∷ (word, l₂₆) ∷ (readerT, l₂₇) ∷ []
 
-      -- _27 to _9, between turns, in front of what is said of the rest
-      abbrev Spare : List (Item 𝓤) → List (Item 𝓤)
-      Spare Γ =
-          ‵ (froom word l₂₇ 0) ∷ ‵ (fdies word l₂₇) ∷ ‵ (froom readerT l₂₆ 0) ∷ ‵ (fdies readerT l₂₆) ∷ ‵ (froom word l₂₅ 0) ∷ ‵ (fdies word l₂₅)
-          ∷ ‵ (froom (laneT erased w64) l₂₄ 0) ∷ ‵ (fdies (laneT erased w64) l₂₄) ∷ ‵ (froom (tyRef erased mut (tyInt w64)) l₂₃ 0) ∷ ‵ (fdies (tyRef erased mut (tyInt w64)) l₂₃) ∷ ‵ (froom (laneT erased w16) l₂₂ 0) ∷ ‵ (fdies (laneT erased w16) l₂₂)
-          ∷ ‵ (froom (tyRef erased mut (tyInt w16)) l₂₁ 0) ∷ ‵ (fdies (tyRef erased mut (tyInt w16)) l₂₁) ∷ ‵ (froom (laneT erased w16) l₂₀ 0) ∷ ‵ (fdies (laneT erased w16) l₂₀) ∷ ‵ (froom (tyRef erased mut (tyInt w16)) l₁₉ 0) ∷ ‵ (fdies (tyRef erased mut (tyInt w16)) l₁₉)
-          ∷ ‵ (froom (laneT erased w16) l₁₈ 0) ∷ ‵ (fdies (laneT erased w16) l₁₈) ∷ ‵ (froom (tyRef erased mut (tyInt w16)) l₁₇ 0) ∷ ‵ (fdies (tyRef erased mut (tyInt w16)) l₁₇) ∷ ‵ (froom word l₁₆ 0) ∷ ‵ (fdies word l₁₆)
-          ∷ ‵ (froom (bytesT erased) l₁₅ 0) ∷ ‵ (fdies (bytesT erased) l₁₅) ∷ ‵ (froom readerT l₁₄ 0) ∷ ‵ (fdies readerT l₁₄) ∷ ‵ (froom tyBool l₁₃ 0) ∷ ‵ (fdies tyBool l₁₃)
-          ∷ ‵ (froom word l₁₂ 0) ∷ ‵ (fdies word l₁₂) ∷ ‵ (froom word l₁₁ 0) ∷ ‵ (fdies word l₁₁) ∷ ‵ (froom D′.mir l₁₀ 0) ∷ ‵ (fdies D′.mir l₁₀)
-          ∷ ‵ (froom S′.mir l₉ 0) ∷ ‵ (fdies S′.mir l₉) ∷ Γ
+      -- [the bytes' token; the bytes; the lanes; _27; …; _0; …], so that _i stands at 57 − 2 i. Between turns _10 to _27 are room; what _9 and _8 have is handed in
+      abbrev Laid : Lanes → List (Item 𝓤) → List (Item 𝓤)
+      Laid m Γ = ‵ Tok ∷ ‵ Book ∷ ‵ (held m) ∷ (room readerT l₂₇ ∵ room word l₂₆ ∵ room (laneT erased w64) l₂₅ ∵ room (laneP w64) l₂₄ ∵ room (laneT erased w16) l₂₃ ∵ room (laneP w16) l₂₂ ∵ room (laneT erased w16) l₂₁ ∵ room (laneP w16) l₂₀ ∵ room (laneT erased w16) l₁₉ ∵ room (laneP w16) l₁₈
+          ∵ room word l₁₇ ∵ room (bytesT erased) l₁₆ ∵ room readerT l₁₅ ∵ room tyBool l₁₄ ∵ room word l₁₃ ∵ room word l₁₂ ∵ room D′.mir l₁₁ ∵ room S′.mir l₁₀ ∵ Γ)
 
-      -- [the bytes' token; the bytes; the lanes; _27; …; _0; …], so that _i stands at 57 − 2 i
+      -- the parameters, behind which there is room for the result
+      abbrev Given-in : List (Item 𝓤)
+      Given-in = holds (laneT (named 4) w64) l₇ (val ann) ∵ holds (laneT (named 3) w16) l₆ (val obj) ∵ holds (laneT (named 2) w16) l₅ (val pred) ∵ holds (laneT (named 1) w16) l₄ (val subj) ∵ holds word l₃ (vint w64 start) ∵ holds (bytesT (named 0)) l₂ vb ∵ holds (tyInt w8) l₁ (vint w8 kind) ∵ room F′.mir l₀ ∵ []
+
       abbrev At : here → List (Item 𝓤)
-      At x = ‵ Tok ∷ ‵ Book ∷ ‵ (held (x .m)) ∷ Spare (
-          ‵ (fat fullShare word l₈ 0 (vint w64 (x .count))) ∷ ‵ (fdies word l₈) ∷ ‵ (fat fullShare readerT l₇ 0 (T′.lowered (reader (x .at)))) ∷ ‵ (fdies readerT l₇) ∷ ‵ (fat fullShare (laneT (named 4) w64) l₆ 0 (val ann)) ∷ ‵ (fdies (laneT (named 4) w64) l₆)
-          ∷ ‵ (fat fullShare (laneT (named 3) w16) l₅ 0 (val obj)) ∷ ‵ (fdies (laneT (named 3) w16) l₅) ∷ ‵ (fat fullShare (laneT (named 2) w16) l₄ 0 (val pred)) ∷ ‵ (fdies (laneT (named 2) w16) l₄) ∷ ‵ (fat fullShare (laneT (named 1) w16) l₃ 0 (val subj)) ∷ ‵ (fdies (laneT (named 1) w16) l₃)
-          ∷ ‵ (fat fullShare (bytesT (named 0)) l₂ 0 vb) ∷ ‵ (fdies (bytesT (named 0)) l₂) ∷ ‵ (fat fullShare (tyInt w8) l₁ 0 (vint w8 kind)) ∷ ‵ (fdies (tyInt w8) l₁) ∷ ‵ (froom F′.mir l₀ 0) ∷ ‵ (fdies F′.mir l₀) ∷ [])
+      At x = Laid (x .m) (holds word l₉ (vint w64 (x .count)) ∵ holds readerT l₈ (T′.lowered (reader (x .at))) ∵ Given-in)
 
       -- the locals are freed, one by one
       abbrev Rooms : Lanes → List (Item 𝓤)
-      Rooms m = ‵ Tok ∷ ‵ Book ∷ ‵ (held m) ∷ Spare (
-          ‵ (froom word l₈ 0) ∷ ‵ (fdies word l₈) ∷ ‵ (froom readerT l₇ 0) ∷ ‵ (fdies readerT l₇) ∷ ‵ (froom (laneT (named 4) w64) l₆ 0) ∷ ‵ (fdies (laneT (named 4) w64) l₆)
-          ∷ ‵ (froom (laneT (named 3) w16) l₅ 0) ∷ ‵ (fdies (laneT (named 3) w16) l₅) ∷ ‵ (froom (laneT (named 2) w16) l₄ 0) ∷ ‵ (fdies (laneT (named 2) w16) l₄) ∷ ‵ (froom (laneT (named 1) w16) l₃ 0) ∷ ‵ (fdies (laneT (named 1) w16) l₃)
-          ∷ ‵ (froom (bytesT (named 0)) l₂ 0) ∷ ‵ (fdies (bytesT (named 0)) l₂) ∷ ‵ (froom (tyInt w8) l₁ 0) ∷ ‵ (fdies (tyInt w8) l₁) ∷ ‵ (froom F′.mir l₀ 0) ∷ ‵ (fdies F′.mir l₀) ∷ [])
+      Rooms m = Laid m (room word l₉ ∵ room readerT l₈ ∵ room (laneT (named 4) w64) l₇ ∵ room (laneT (named 3) w16) l₆ ∵ room (laneT (named 2) w16) l₅ ∵ room (laneT (named 1) w16) l₄ ∵ room word l₃ ∵ room (bytesT (named 0)) l₂ ∵ room (tyInt w8) l₁ ∵ room F′.mir l₀ ∵ [])
 
       freed : (v : Val) (m : Lanes) → ent 𝓤 (⋆ 𝓤 H A (‵ Tok ∷ ‵ Book ∷ ‵ (held m) ∷ [])) (Post v) → Sq W (Rooms m) (frees En (prop (Post v)))
       freed v m ends = move ! (57 ∷ 58 ∷ []) $ free1 ! $ move ! (55 ∷ 56 ∷ []) $ free1 ! $ move ! (53 ∷ 54 ∷ []) $ free1 ! $ move ! (51 ∷ 52 ∷ []) $ free1 ! $ move ! (49 ∷ 50 ∷ []) $ free1 ! $ move ! (47 ∷ 48 ∷ []) $ free1 ! $ move ! (45 ∷ 46 ∷ []) $ free1 ! $ move ! (43 ∷ 44 ∷ []) $ free1 ! $ move ! (41 ∷ 42 ∷ []) $ free1 ! $ move ! (39 ∷ 40 ∷ []) $ free1 ! $ move ! (37 ∷ 38 ∷ []) $ free1 ! $ move ! (35 ∷ 36 ∷ []) $ free1 ! $ move ! (33 ∷ 34 ∷ []) $ free1 ! $ move ! (31 ∷ 32 ∷ []) $ free1 ! $ move ! (29 ∷ 30 ∷ []) $ free1 ! $ move ! (27 ∷ 28 ∷ []) $ free1 ! $ move ! (25 ∷ 26 ∷ []) $ free1 ! $ move ! (23 ∷ 24 ∷ []) $ free1 ! $ move ! (21 ∷ 22 ∷ []) $ free1 ! $ move ! (19 ∷ 20 ∷ []) $ free1 ! $ move ! (17 ∷ 18 ∷ []) $ free1 ! $ move ! (15 ∷ 16 ∷ []) $ free1 ! $ move ! (13 ∷ 14 ∷ []) $ free1 ! $ move ! (11 ∷ 12 ∷ []) $ free1 ! $ move ! (9 ∷ 10 ∷ []) $ free1 ! $ move ! (7 ∷ 8 ∷ []) $ free1 ! $ move ! (5 ∷ 6 ∷ []) $ free1 ! $ move ! (3 ∷ 4 ∷ []) $ free1 ! $ free0 ! $ by ! ends
@@ -382,109 +384,104 @@ module _ {M : Type 1} (𝓤 : URA M) (H : Heap 𝓤) (A : Atoms 𝓤) (W : Given
       turns : (x : here) → Sq W (At x) (runs C Λ En body.turn-1 (anyQ (Turned x)))
       unfolding afterTurn
       turns x =
-          assigns ! (of-opd ! (load ! (from ! (fld ! refl (stop !))) (look-in ! 43 (sub ! 1 refl (whole !))))) (from ! (stop !)) (init ! 35 refl (tt, record { fits = x .at-fits })) $
-          assigns ! (of-opd ! (load ! (from ! (fld ! refl (fld ! refl (stop !)))) (look-in ! 43 (sub ! 1 refl (sub ! 0 refl (whole !)))))) (from ! (stop !)) (init ! 33 refl (tt, record { fits = room-book .0 })) $
-          assigns ! (bin ! (load ! (from ! (stop !)) (look ! 35 refl)) (load ! (from ! (stop !)) (look ! 33 refl)) tt) (from ! (stop !)) (init ! 31 refl (tt, tt)) $
-          whiles ! (load ! (from ! (stop !)) (look ! 31 refl))
+          assigns ! (of-opd ! (load ! (from ! (fld ! refl (stop !))) (look-in ! 41 (sub ! 1 refl (whole !))))) (from ! (stop !)) (init ! 33 refl (tt, record { fits = x .at-fits })) $
+          assigns ! (of-opd ! (load ! (from ! (fld ! refl (fld ! refl (stop !)))) (look-in ! 41 (sub ! 1 refl (sub ! 0 refl (whole !)))))) (from ! (stop !)) (init ! 31 refl (tt, record { fits = room-book .0 })) $
+          assigns ! (bin ! (load ! (from ! (stop !)) (look ! 33 refl)) (load ! (from ! (stop !)) (look ! 31 refl)) tt) (from ! (stop !)) (init ! 29 refl (tt, tt)) $
+          whiles ! (load ! (from ! (stop !)) (look ! 29 refl))
           (λ more. let less : x .at < length bytes = ltb→lt (x .at) (length bytes) more in
           -- what stands at the reader's place
-          assigns ! (of-opd ! (load ! (from ! (stop !)) (look ! 43 refl))) (from ! (stop !)) (init ! 29 refl (reader-typed (x .at) (x .at-fits))) $
+          assigns ! (of-opd ! (load ! (from ! (stop !)) (look ! 41 refl))) (from ! (stop !)) (init ! 27 refl (reader-typed (x .at) (x .at-fits))) $
           use2 W (raw (FieldThere 𝓤 H A mem run .pre (to-field (x .at))) ⊛ ‵ Book) (with-book (FieldThere 𝓤 H A mem run .pre (to-field (x .at))) (goes-field (x .at) (x .at-fits))) $ split ! $
-          calls-at ! (fmOf 𝓤 H (W .laws) 𝓣) (FieldThere 𝓤 H A mem run) known-field (to-field (x .at)) (and-then ! (load ! (from ! (stop !)) (look ! 29 refl)) (no-more !)) (λ u.
+          calls-at ! (fmOf 𝓤 H (W .laws) 𝓣) (FieldThere 𝓤 H A mem run) known-field (to-field (x .at)) (and-then ! (load ! (from ! (stop !)) (look ! 27 refl)) (no-more !)) (λ u.
           use1 W (later (some (λ (t : Field). ((‵ Tok ⊛ ‵ ftrue) ⊛ ‵ (S.the-row .own t (u ∷ []))) ⊛ raw (ensured 𝓤 H A field.ended (field.clauses 𝓤 H A mem run) (κ₀, tt) (reader (x .at), tt) tt t)))) (id⊢ 𝓤 _) $ await ! tt $ pick ! (λ t.
           split ! $ move ! (1 ∷ []) $ use1 W (raw (fact 𝓤 (t ≡ fieldAt bytes (x .at)))) (field-said (x .at) t) $ heard ! (t ≡ fieldAt bytes (x .at)) (λ et. split ! $ move ! (1 ∷ []) $ facts ! S.the-row (Is S.the-row) (shows 𝓤 H A S.the-row) t (u ∷ []) (λ gt. split ! $ move ! (1 ∷ []) $ drop ! $
-          land ! (from ! (stop !)) (init ! 39 refl (EL.lawful S.the-type S′.the-laws 𝓤 H A W tt .typed t _ gt .0)) $
+          land ! (from ! (stop !)) (init ! 37 refl (EL.lawful S.the-type S′.the-laws 𝓤 H A W tt .typed t _ gt .0)) $
           -- it is put into the lanes, which are lent on
-          assigns ! (of-opd ! (load ! (from ! (fld ! refl (stop !))) (look-in ! 43 (sub ! 0 refl (whole !))))) (from ! (stop !)) (init ! 27 refl (tt, (tt, (record { fits = room-book .0 }, tt)))) $
-          assigns ! (of-opd ! (load ! (from ! (fld ! refl (stop !))) (look-in ! 43 (sub ! 1 refl (whole !))))) (from ! (stop !)) (init ! 25 refl (tt, record { fits = x .at-fits })) $
-          assigns ! (addr ! (from ! (fld ! refl (hop ! (look-in ! 51 (sub ! 0 refl (whole !))) (stop !))))) (from ! (stop !)) (init ! 23 refl (tt, tt)) $
-          assigns ! (agg ! (and-then ! (load ! (from ! (stop !)) (look ! 23 refl)) (and-then ! (load ! (from ! (fld ! refl (stop !))) (look-in ! 51 (sub ! 1 refl (whole !)))) (no-more !)))) (from ! (stop !)) (init ! 21 refl (tt, (tt, (record { fits = room-subj .0 }, tt)))) $
-          assigns ! (addr ! (from ! (fld ! refl (hop ! (look-in ! 49 (sub ! 0 refl (whole !))) (stop !))))) (from ! (stop !)) (init ! 19 refl (tt, tt)) $
-          assigns ! (agg ! (and-then ! (load ! (from ! (stop !)) (look ! 19 refl)) (and-then ! (load ! (from ! (fld ! refl (stop !))) (look-in ! 49 (sub ! 1 refl (whole !)))) (no-more !)))) (from ! (stop !)) (init ! 17 refl (tt, (tt, (record { fits = room-pred .0 }, tt)))) $
-          assigns ! (addr ! (from ! (fld ! refl (hop ! (look-in ! 47 (sub ! 0 refl (whole !))) (stop !))))) (from ! (stop !)) (init ! 15 refl (tt, tt)) $
-          assigns ! (agg ! (and-then ! (load ! (from ! (stop !)) (look ! 15 refl)) (and-then ! (load ! (from ! (fld ! refl (stop !))) (look-in ! 47 (sub ! 1 refl (whole !)))) (no-more !)))) (from ! (stop !)) (init ! 13 refl (tt, (tt, (record { fits = room-obj .0 }, tt)))) $
-          assigns ! (addr ! (from ! (fld ! refl (hop ! (look-in ! 45 (sub ! 0 refl (whole !))) (stop !))))) (from ! (stop !)) (init ! 11 refl (tt, tt)) $
-          assigns ! (agg ! (and-then ! (load ! (from ! (stop !)) (look ! 11 refl)) (and-then ! (load ! (from ! (fld ! refl (stop !))) (look-in ! 45 (sub ! 1 refl (whole !)))) (no-more !)))) (from ! (stop !)) (init ! 9 refl (tt, (tt, (record { fits = room-ann .0 }, tt)))) $
+          assigns ! (of-opd ! (load ! (from ! (fld ! refl (stop !))) (look-in ! 41 (sub ! 0 refl (whole !))))) (from ! (stop !)) (init ! 25 refl (tt, (tt, (record { fits = room-book .0 }, tt)))) $
+          assigns ! (of-opd ! (load ! (from ! (fld ! refl (stop !))) (look-in ! 41 (sub ! 1 refl (whole !))))) (from ! (stop !)) (init ! 23 refl (tt, record { fits = x .at-fits })) $
+          assigns ! (addr ! (from ! (fld ! refl (hop ! (look-in ! 49 (sub ! 0 refl (whole !))) (stop !))))) (from ! (stop !)) (init ! 21 refl (tt, tt)) $
+          assigns ! (agg ! (and-then ! (load ! (from ! (stop !)) (look ! 21 refl)) (and-then ! (load ! (from ! (fld ! refl (stop !))) (look-in ! 49 (sub ! 1 refl (whole !)))) (no-more !)))) (from ! (stop !)) (init ! 19 refl (tt, (tt, (record { fits = room-subj .0 }, tt)))) $
+          assigns ! (addr ! (from ! (fld ! refl (hop ! (look-in ! 47 (sub ! 0 refl (whole !))) (stop !))))) (from ! (stop !)) (init ! 17 refl (tt, tt)) $
+          assigns ! (agg ! (and-then ! (load ! (from ! (stop !)) (look ! 17 refl)) (and-then ! (load ! (from ! (fld ! refl (stop !))) (look-in ! 47 (sub ! 1 refl (whole !)))) (no-more !)))) (from ! (stop !)) (init ! 15 refl (tt, (tt, (record { fits = room-pred .0 }, tt)))) $
+          assigns ! (addr ! (from ! (fld ! refl (hop ! (look-in ! 45 (sub ! 0 refl (whole !))) (stop !))))) (from ! (stop !)) (init ! 13 refl (tt, tt)) $
+          assigns ! (agg ! (and-then ! (load ! (from ! (stop !)) (look ! 13 refl)) (and-then ! (load ! (from ! (fld ! refl (stop !))) (look-in ! 45 (sub ! 1 refl (whole !)))) (no-more !)))) (from ! (stop !)) (init ! 11 refl (tt, (tt, (record { fits = room-obj .0 }, tt)))) $
+          assigns ! (addr ! (from ! (fld ! refl (hop ! (look-in ! 43 (sub ! 0 refl (whole !))) (stop !))))) (from ! (stop !)) (init ! 9 refl (tt, tt)) $
+          assigns ! (agg ! (and-then ! (load ! (from ! (stop !)) (look ! 9 refl)) (and-then ! (load ! (from ! (fld ! refl (stop !))) (look-in ! 43 (sub ! 1 refl (whole !)))) (no-more !)))) (from ! (stop !)) (init ! 7 refl (tt, (tt, (record { fits = room-ann .0 }, tt)))) $
           move ! (2 ∷ []) $ use1 W (later (some (λ (z : Names). ‵ (lent x t u z) ⊛ ‵ (kept x t u z)))) (lanes-out subj pred obj ann κ₁ κ₂ κ₃ κ₄ q₁ q₂ q₃ q₄ 𝓤 H A W (x .m) (x .as-long)) $ await ! tt $ pick ! (λ z. split ! $ move ! (2 ∷ 3 ∷ 0 ∷ []) $
           use3 W (raw (ReadField 𝓤 H A mem run .pre (to-read x t u z)) ⊛ ‵ Book) (goes-read x t u z gt less et) $ split ! $
           -- [what `read_field` asks; the bytes; what was kept; _27; …]
           calls-at ! (fmOf 𝓤 H (W .laws) 𝓣) (ReadField 𝓤 H A mem run) known-read (to-read x t u z)
-          (and-then ! (load ! (from ! (stop !)) (look ! 55 refl)) (and-then ! (load ! (from ! (stop !)) (look ! 27 refl)) (and-then ! (load ! (from ! (stop !)) (look ! 25 refl)) (and-then ! (load ! (from ! (stop !)) (look ! 39 refl)) (and-then ! (load ! (from ! (stop !)) (look ! 21 refl)) (and-then ! (load ! (from ! (stop !)) (look ! 17 refl)) (and-then ! (load ! (from ! (stop !)) (look ! 13 refl)) (and-then ! (load ! (from ! (stop !)) (look ! 9 refl)) (and-then ! (load ! (from ! (stop !)) (look ! 41 refl)) (no-more !)))))))))) (λ v.
+          (and-then ! (load ! (from ! (stop !)) (look ! 55 refl)) (and-then ! (load ! (from ! (stop !)) (look ! 25 refl)) (and-then ! (load ! (from ! (stop !)) (look ! 23 refl)) (and-then ! (load ! (from ! (stop !)) (look ! 37 refl)) (and-then ! (load ! (from ! (stop !)) (look ! 19 refl)) (and-then ! (load ! (from ! (stop !)) (look ! 15 refl)) (and-then ! (load ! (from ! (stop !)) (look ! 11 refl)) (and-then ! (load ! (from ! (stop !)) (look ! 7 refl)) (and-then ! (load ! (from ! (stop !)) (look ! 39 refl)) (no-more !)))))))))) (λ v.
           use1 W (later (some (λ (r : FieldDone). (Toks x t u z ⊛ ‵ (D.the-row .own r (v ∷ []))) ⊛ raw (ensured 𝓤 H A read-field.ended (read-field.clauses 𝓤 H A mem run) (κs′ x t u z) (a′ x t u z) tt r)))) (id⊢ 𝓤 _) $ await ! tt $ pick ! (λ r.
           split ! $ split ! $ move ! (1 ∷ []) $ facts ! D.the-row (Is D.the-row) (shows 𝓤 H A D.the-row) r (v ∷ []) (λ gr. move ! (0 ∷ 1 ∷ 3 ∷ []) $
           use3 W (later (some (λ (m : Lanes). given (Told x t u z r m) (‵ Tok ⊛ ‵ (held m))))) (read-back x t u z r) $ await ! tt $ pick ! (λ m. learn ! (λ e. split ! $ move ! (0 ∷ 2 ∷ []) $
           -- [the bytes' token; the bytes; the lanes; _27; …]
-          let fits : (r .number < 2 ^ 8) × (r .count < 2 ^ 64) = (LL.owed D.the-type D′.the-laws r _ gr .0 .1, LL.owed D.the-type D′.the-laws r _ gr .1 .0 .1) in
-          land ! (from ! (stop !)) (init ! 37 refl (LL.lawful D.the-type D′.the-laws 𝓤 H A W .typed r _ gr .0)) $ rewrite ! 37 (λ (w : Val). ‵ (fat fullShare D′.mir l₁₀ 0 w)) (ap only (LL.tells D.the-type D′.the-laws r (v ∷ []) gr)) refl $
-          assigns ! (bin ! (lit ! tt) (load ! (from ! (fld ! refl (stop !))) (look-in ! 37 (sub ! 0 refl (whole !)))) tt) (from ! (stop !)) (store ! 31 refl (tt, tt)) $
-          ifs ! (load ! (from ! (stop !)) (look ! 31 refl))
+          let owed = LL.owed D.the-type D′.the-laws r _ gr in let fits : (r .number < 2 ^ 8) × (r .next < 2 ^ 64) × (r .count < 2 ^ 64) = (owed .0 .1, owed .1 .0 .1, owed .1 .1 .0 .1) in
+          land ! (from ! (stop !)) (init ! 35 refl (LL.lawful D.the-type D′.the-laws 𝓤 H A W .typed r _ gr .0)) $ rewrite ! 35 (λ (w : Val). ‵ (fat fullShare D′.mir l₁₁ 0 w)) (ap only (LL.tells D.the-type D′.the-laws r (v ∷ []) gr)) refl $
+          assigns ! (bin ! (lit ! tt) (load ! (from ! (fld ! refl (stop !))) (look-in ! 35 (sub ! 0 refl (whole !)))) tt) (from ! (stop !)) (store ! 29 refl (tt, tt)) $
+          ifs ! (load ! (from ! (stop !)) (look ! 29 refl))
           -- refused: the reader's place is the refusal's
           (λ some-number.
-          assigns ! (of-opd ! (load ! (from ! (fld ! refl (stop !))) (look-in ! 43 (sub ! 1 refl (whole !))))) (from ! (stop !)) (init ! 7 refl (tt, record { fits = x .at-fits })) $
-          assigns ! (agg ! (and-then ! (load ! (from ! (fld ! refl (stop !))) (look-in ! 37 (sub ! 0 refl (whole !)))) (and-then ! (load ! (from ! (stop !)) (look ! 7 refl)) (and-then ! (load ! (from ! (fld ! refl (stop !))) (look-in ! 37 (sub ! 1 refl (whole !)))) (no-more !))))) (from ! (stop !)) (init ! 57 refl (tt, (record { fits = fits .0 }, (record { fits = x .at-fits }, (record { fits = fits .1 }, tt))))) $
-          returns-within ! Post refl (look ! 57 refl) $ forget ! 7 refl $ forget ! 9 refl $ forget ! 11 refl $ forget ! 13 refl $ forget ! 15 refl $ forget ! 17 refl $ forget ! 19 refl $ forget ! 21 refl $ forget ! 23 refl $ forget ! 25 refl $ forget ! 27 refl $ forget ! 29 refl $ forget ! 31 refl $ forget ! 33 refl $ forget ! 35 refl $ forget ! 37 refl $ forget ! 39 refl $ forget ! 41 refl $ forget ! 43 refl $ forget ! 45 refl $ forget ! 47 refl $ forget ! 49 refl $ forget ! 51 refl $ forget ! 53 refl $ forget ! 55 refl $ forget ! 57 refl $
+          assigns ! (of-opd ! (load ! (from ! (fld ! refl (stop !))) (look-in ! 41 (sub ! 1 refl (whole !))))) (from ! (stop !)) (init ! 5 refl (tt, record { fits = x .at-fits })) $
+          assigns ! (agg ! (and-then ! (load ! (from ! (fld ! refl (stop !))) (look-in ! 35 (sub ! 0 refl (whole !)))) (and-then ! (load ! (from ! (stop !)) (look ! 5 refl)) (and-then ! (load ! (from ! (fld ! refl (stop !))) (look-in ! 35 (sub ! 2 refl (whole !)))) (no-more !))))) (from ! (stop !)) (init ! 57 refl (tt, (record { fits = fits .0 }, (record { fits = x .at-fits }, (record { fits = fits .2 }, tt))))) $
+          returns-within ! Post refl (look ! 57 refl) $ forget ! 5 refl $ forget ! 7 refl $ forget ! 9 refl $ forget ! 11 refl $ forget ! 13 refl $ forget ! 15 refl $ forget ! 17 refl $ forget ! 19 refl $ forget ! 21 refl $ forget ! 23 refl $ forget ! 25 refl $ forget ! 27 refl $ forget ! 29 refl $ forget ! 31 refl $ forget ! 33 refl $ forget ! 35 refl $ forget ! 37 refl $ forget ! 39 refl $ forget ! 41 refl $ forget ! 43 refl $ forget ! 45 refl $ forget ! 47 refl $ forget ! 49 refl $ forget ! 51 refl $ forget ! 53 refl $ forget ! 55 refl $ forget ! 57 refl $
           freed (F′.lowered (record { number = r .number; place = x .at; count = r .count })) m
-          (exits (record { number = r .number; place = x .at; count = r .count }) m (done-is (record { number = r .number; place = x .at; count = r .count }) (fits .0) (x .at-fits) (fits .1)) (e .1)
-          (reached-stop kind bytes l (x .m) (x .at) (x .count) (x .reached) less m (r .number) (r .count) (e .0) (ltb→lt 0 (r .number) some-number))))
+          (exits (record { number = r .number; place = x .at; count = r .count }) m (done-is (record { number = r .number; place = x .at; count = r .count }) (fits .0) (x .at-fits) (fits .2)) (e .1)
+          (reached-stop kind bytes start l (x .m) (x .at) (x .count) (x .reached) less m r (e .0) (ltb→lt 0 (r .number) some-number))))
           -- the reader goes on
-          (λ no-number. let none : r .number ≤ 0 = nltb→le 0 (r .number) no-number in let ok : x .at + 17 < 2 ^ 64 = on-fits x less r m (e .0) none in
-          assigns ! (of-opd ! (load ! (from ! (fld ! refl (stop !))) (look-in ! 37 (sub ! 1 refl (whole !))))) (from ! (stop !)) (store ! 41 refl (tt, record { fits = fits .1 })) $
-          assigns ! (of-opd ! (load ! (from ! (stop !)) (look ! 43 refl))) (from ! (stop !)) (init ! 5 refl (reader-typed (x .at) (x .at-fits))) $
-          assigns ! (of-opd ! (load ! (from ! (fld ! refl (stop !))) (look-in ! 43 (sub ! 1 refl (whole !))))) (from ! (stop !)) (init ! 3 refl (tt, record { fits = x .at-fits })) $
-          assigns ! (bin ! (load ! (from ! (stop !)) (look ! 3 refl)) (lit ! tt) (record { fits = ok })) (from ! (stop !)) (store ! 33 refl (tt, record { fits = ok })) $
-          use2 W (raw (Moved 𝓤 H A mem run .pre (to-moved (x .at) (x .at + 17))) ⊛ ‵ Book) (with-book (Moved 𝓤 H A mem run .pre (to-moved (x .at) (x .at + 17))) (goes-moved (x .at) (x .at + 17) (x .at-fits) ok)) $ split ! $
-          calls-at-last ! (fmOf 𝓤 H (W .laws) 𝓣) (Moved 𝓤 H A mem run) known-moved (to-moved (x .at) (x .at + 17)) (and-then ! (load ! (from ! (stop !)) (look ! 5 refl)) (and-then ! (load ! (from ! (stop !)) (look ! 33 refl)) (no-more !))) (λ w.
-          use1 W (later (some (λ (d : Reader). ((‵ Tok ⊛ ‵ ftrue) ⊛ ‵ (B .own d (w ∷ []))) ⊛ raw (ensured 𝓤 H A moved.ended (moved.clauses 𝓤 H A mem run) (κ₀, tt) (reader (x .at), (x .at + 17, tt)) tt d)))) (id⊢ 𝓤 _) $ await ! tt $ pick ! (λ d.
-          split ! $ move ! (1 ∷ []) $ use1 W (raw (fact 𝓤 (Stands d (x .at + 17)))) (moved-said (x .at) (x .at + 17) d) $ heard ! (Stands d (x .at + 17)) (λ ed. split ! $ move ! (1 ∷ []) $ facts ! B (Is B) (shows 𝓤 H A B) d (w ∷ []) (λ gd. split ! $ move ! (1 ∷ []) $ drop ! $
-          land-last ! (from ! (stop !)) (store ! 43 refl (LL.lawful (T.the-type αᵉ) (T′.the-laws αᵉ) 𝓤 H A W .typed d _ gd .0)) $ rewrite ! 43 (λ (y : Val). ‵ (fat fullShare readerT l₇ 0 y)) (reader-is d w (x .at + 17) gd ed) refl $
-          forget ! 3 refl $ forget ! 5 refl $ forget ! 9 refl $ forget ! 11 refl $ forget ! 13 refl $ forget ! 15 refl $ forget ! 17 refl $ forget ! 19 refl $ forget ! 21 refl $ forget ! 23 refl $ forget ! 25 refl $ forget ! 27 refl $ forget ! 29 refl $ forget ! 31 refl $ forget ! 33 refl $ forget ! 35 refl $ forget ! 37 refl $ forget ! 39 refl $
-          again ! Before At x (on x less r m (e .0) none (fits .1) (e .1)) (omega arith)))))))))))))))))
+          (λ no-number. let none : r .number ≤ 0 = nltb→le 0 (r .number) no-number in
+          assigns ! (of-opd ! (load ! (from ! (fld ! refl (stop !))) (look-in ! 35 (sub ! 2 refl (whole !))))) (from ! (stop !)) (store ! 39 refl (tt, record { fits = fits .2 })) $
+          assigns ! (of-opd ! (load ! (from ! (stop !)) (look ! 41 refl))) (from ! (stop !)) (init ! 3 refl (reader-typed (x .at) (x .at-fits))) $
+          use2 W (raw (Moved 𝓤 H A mem run .pre (to-moved (x .at) (r .next))) ⊛ ‵ Book) (with-book (Moved 𝓤 H A mem run .pre (to-moved (x .at) (r .next))) (goes-moved (x .at) (r .next) (x .at-fits) (fits .1))) $ split ! $
+          calls-at-last ! (fmOf 𝓤 H (W .laws) 𝓣) (Moved 𝓤 H A mem run) known-moved (to-moved (x .at) (r .next)) (and-then ! (load ! (from ! (stop !)) (look ! 3 refl)) (and-then ! (load ! (from ! (fld ! refl (stop !))) (look-in ! 35 (sub ! 1 refl (whole !)))) (no-more !))) (λ w.
+          use1 W (later (some (λ (d : Reader). ((‵ Tok ⊛ ‵ ftrue) ⊛ ‵ (B .own d (w ∷ []))) ⊛ raw (ensured 𝓤 H A moved.ended (moved.clauses 𝓤 H A mem run) (κ₀, tt) (reader (x .at), (r .next, tt)) tt d)))) (id⊢ 𝓤 _) $ await ! tt $ pick ! (λ d.
+          split ! $ move ! (1 ∷ []) $ use1 W (raw (fact 𝓤 (Stands d (r .next)))) (moved-said (x .at) (r .next) d) $ heard ! (Stands d (r .next)) (λ ed. split ! $ move ! (1 ∷ []) $ facts ! B (Is B) (shows 𝓤 H A B) d (w ∷ []) (λ gd. split ! $ move ! (1 ∷ []) $ drop ! $
+          land-last ! (from ! (stop !)) (store ! 41 refl (LL.lawful (T.the-type αᵉ) (T′.the-laws αᵉ) 𝓤 H A W .typed d _ gd .0)) $ rewrite ! 41 (λ (y : Val). ‵ (fat fullShare readerT l₈ 0 y)) (reader-is d w (r .next) gd ed) refl $
+          forget ! 3 refl $ forget ! 7 refl $ forget ! 9 refl $ forget ! 11 refl $ forget ! 13 refl $ forget ! 15 refl $ forget ! 17 refl $ forget ! 19 refl $ forget ! 21 refl $ forget ! 23 refl $ forget ! 25 refl $ forget ! 27 refl $ forget ! 29 refl $ forget ! 31 refl $ forget ! 33 refl $ forget ! 35 refl $ forget ! 37 refl $
+          again ! Before At x (on x less r m (e .0) none (fits .1) (fits .2) (e .1)) (nearer x less r m (e .0) none)))))))))))))))))
           -- nothing is left
           (λ over. exec ! C Λ En body.t-4 (atRet En Post) $
-          assigns ! (agg ! (and-then ! (lit ! tt) (and-then ! (lit ! tt) (and-then ! (load ! (from ! (stop !)) (look ! 41 refl)) (no-more !))))) (from ! (stop !)) (init ! 57 refl (tt, (record { fits = lit< tt }, (record { fits = lit< tt }, (record { fits = x .count-fits }, tt))))) $
-          returns ! (look ! 57 refl) $ forget ! 31 refl $ forget ! 33 refl $ forget ! 35 refl $ forget ! 41 refl $ forget ! 43 refl $ forget ! 45 refl $ forget ! 47 refl $ forget ! 49 refl $ forget ! 51 refl $ forget ! 53 refl $ forget ! 55 refl $ forget ! 57 refl $
+          assigns ! (agg ! (and-then ! (lit ! tt) (and-then ! (lit ! tt) (and-then ! (load ! (from ! (stop !)) (look ! 39 refl)) (no-more !))))) (from ! (stop !)) (init ! 57 refl (tt, (record { fits = lit< tt }, (record { fits = lit< tt }, (record { fits = x .count-fits }, tt))))) $
+          returns ! (look ! 57 refl) $ forget ! 29 refl $ forget ! 31 refl $ forget ! 33 refl $ forget ! 39 refl $ forget ! 41 refl $ forget ! 43 refl $ forget ! 45 refl $ forget ! 47 refl $ forget ! 49 refl $ forget ! 51 refl $ forget ! 53 refl $ forget ! 55 refl $ forget ! 57 refl $
           freed (F′.lowered (record { number = 0; place = 0; count = x .count })) (x .m)
           (exits (record { number = 0; place = 0; count = x .count }) (x .m) (done-is (record { number = 0; place = 0; count = x .count }) (lit< tt) (lit< tt) (x .count-fits)) (x .as-long)
-          (reached-end kind bytes l (x .m) (x .at) (x .count) (x .reached) (fresh .sound) (nltb→le (x .at) (length bytes) over))))
+          (reached-end kind bytes start l (x .m) (x .at) (x .count) (x .reached) (fresh .sound) (nltb→le (x .at) (length bytes) over))))
 
-      looped : Sq W (At start) (runs C Λ En body.t-3 (atRet En Post))
-      looped = first ! $ blocks ! $ loops ! 𝓣 Before (nearer-wf (length bytes) (λ (x : here). x .at)) At turns start
+      looped : Sq W (At at-start) (runs C Λ En body.t-3 (atRet En Post))
+      looped = first ! $ blocks ! $ loops ! 𝓣 Before (nearer-wf (length bytes) (λ (x : here). x .at)) At turns at-start
 
       -- before the first statement
       abbrev At₀ : List (Item 𝓤)
-      At₀ = ‵ Tok ∷ ‵ Book ∷ ‵ (held l) ∷ Spare (
-          ‵ (froom word l₈ 0) ∷ ‵ (fdies word l₈) ∷ ‵ (froom readerT l₇ 0) ∷ ‵ (fdies readerT l₇) ∷ ‵ (fat fullShare (laneT (named 4) w64) l₆ 0 (val ann)) ∷ ‵ (fdies (laneT (named 4) w64) l₆)
-          ∷ ‵ (fat fullShare (laneT (named 3) w16) l₅ 0 (val obj)) ∷ ‵ (fdies (laneT (named 3) w16) l₅) ∷ ‵ (fat fullShare (laneT (named 2) w16) l₄ 0 (val pred)) ∷ ‵ (fdies (laneT (named 2) w16) l₄) ∷ ‵ (fat fullShare (laneT (named 1) w16) l₃ 0 (val subj)) ∷ ‵ (fdies (laneT (named 1) w16) l₃)
-          ∷ ‵ (fat fullShare (bytesT (named 0)) l₂ 0 vb) ∷ ‵ (fdies (bytesT (named 0)) l₂) ∷ ‵ (fat fullShare (tyInt w8) l₁ 0 (vint w8 kind)) ∷ ‵ (fdies (tyInt w8) l₁) ∷ ‵ (froom F′.mir l₀ 0) ∷ ‵ (fdies F′.mir l₀) ∷ [])
+      At₀ = Laid l (room word l₉ ∵ room readerT l₈ ∵ Given-in)
 
       begins : Sq W At₀ (runs C Λ En body.t-1 (atRet En Post))
       begins =
           -- the reader is made
           use2 W (raw (Stand 𝓤 H A mem run .pre to-stand) ⊛ ‵ Book) (with-book (Stand 𝓤 H A mem run .pre to-stand) goes-stand) $ split ! $
-          calls-at ! (fmOf 𝓤 H (W .laws) 𝓣) (Stand 𝓤 H A mem run) known-stand to-stand (and-then ! (load ! (from ! (stop !)) (look ! 53 refl)) (and-then ! (lit ! tt) (no-more !))) (λ w.
-          use1 W (later (some (λ (d : Reader). ((‵ Tok ⊛ ‵ ftrue) ⊛ ‵ (B .own d (w ∷ []))) ⊛ raw (ensured 𝓤 H A stand.ended (stand.clauses 𝓤 H A mem run) (κ₀, tt) (book, (7, tt)) tt d)))) (id⊢ 𝓤 _) $ await ! tt $ pick ! (λ d.
-          split ! $ move ! (1 ∷ []) $ use1 W (raw (fact 𝓤 (Stands d 7))) (stand-said d) $ heard ! (Stands d 7) (λ ed. split ! $ move ! (1 ∷ []) $ facts ! B (Is B) (shows 𝓤 H A B) d (w ∷ []) (λ gd. split ! $ move ! (1 ∷ []) $ drop ! $
-          land ! (from ! (stop !)) (init ! 43 refl (LL.lawful (T.the-type αᵉ) (T′.the-laws αᵉ) 𝓤 H A W .typed d _ gd .0)) $ rewrite ! 43 (λ (y : Val). ‵ (fat fullShare readerT l₇ 0 y)) (reader-is d w 7 gd ed) refl $
-          assigns ! (of-opd ! (lit ! tt)) (from ! (stop !)) (init ! 41 refl (tt, record { fits = lit< tt })) $ looped))))
+          calls-at ! (fmOf 𝓤 H (W .laws) 𝓣) (Stand 𝓤 H A mem run) known-stand to-stand (and-then ! (load ! (from ! (stop !)) (look ! 53 refl)) (and-then ! (load ! (from ! (stop !)) (look ! 51 refl)) (no-more !))) (λ w.
+          use1 W (later (some (λ (d : Reader). ((‵ Tok ⊛ ‵ ftrue) ⊛ ‵ (B .own d (w ∷ []))) ⊛ raw (ensured 𝓤 H A stand.ended (stand.clauses 𝓤 H A mem run) (κ₀, tt) (book, (start, tt)) tt d)))) (id⊢ 𝓤 _) $ await ! tt $ pick ! (λ d.
+          split ! $ move ! (1 ∷ []) $ use1 W (raw (fact 𝓤 (Stands d start))) (stand-said d) $ heard ! (Stands d start) (λ ed. split ! $ move ! (1 ∷ []) $ facts ! B (Is B) (shows 𝓤 H A B) d (w ∷ []) (λ gd. split ! $ move ! (1 ∷ []) $ drop ! $
+          land ! (from ! (stop !)) (init ! 41 refl (LL.lawful (T.the-type αᵉ) (T′.the-laws αᵉ) 𝓤 H A W .typed d _ gd .0)) $ rewrite ! 41 (λ (y : Val). ‵ (fat fullShare readerT l₈ 0 y)) (reader-is d w start gd ed) refl $
+          assigns ! (of-opd ! (lit ! tt)) (from ! (stop !)) (init ! 39 refl (tt, record { fits = lit< tt })) $ looped))))
 
-    walk : ent 𝓤 (onEntry 𝓤 H A f.signature κs qs a vals) (WpFn 𝓤 H C Λ code.function (vint w8 kind ∷ vb ∷ val subj ∷ val pred ∷ val obj ∷ val ann ∷ []) Post)
+    walk : ent 𝓤 (onEntry 𝓤 H A f.signature κs qs a vals) (WpFn 𝓤 H C Λ code.function (vint w8 kind ∷ vb ∷ vint w64 start ∷ val subj ∷ val pred ∷ val obj ∷ val ann ∷ []) Post)
     walk =
-        qed W (All ∷ ‵ Owned ∷ []) ∵ enter ! C Λ code.function (vint w8 kind ∷ vb ∷ val subj ∷ val pred ∷ val obj ∷ val ann ∷ []) _ $
+        qed W (All ∷ ‵ Owned ∷ []) ∵ enter ! C Λ code.function (vint w8 kind ∷ vb ∷ vint w64 start ∷ val subj ∷ val pred ∷ val obj ∷ val ann ∷ []) _ $
         alloc1 ! (λ l₀. alloc1 ! (λ l₁. alloc1 ! (λ l₂. alloc1 ! (λ l₃. alloc1 ! (λ l₄. alloc1 ! (λ l₅. alloc1 ! (λ l₆. alloc1 ! (λ l₇. alloc1 ! (λ l₈. alloc1 ! (λ l₉. alloc1 ! (λ l₁₀. alloc1 ! (λ l₁₁. alloc1 ! (λ l₁₂. alloc1 ! (λ l₁₃. alloc1 ! (λ l₁₄. alloc1 ! (λ l₁₅. alloc1 ! (λ l₁₆. alloc1 ! (λ l₁₇. alloc1 ! (λ l₁₈. alloc1 ! (λ l₁₉. alloc1 ! (λ l₂₀. alloc1 ! (λ l₂₁. alloc1 ! (λ l₂₂. alloc1 ! (λ l₂₃. alloc1 ! (λ l₂₄. alloc1 ! (λ l₂₅. alloc1 ! (λ l₂₆. alloc1 ! (λ l₂₇. alloc0 ! $ params1 ! $
-        pass1 ! (init ! 52 refl (tt, record { fits = fits-kind })) $ pass1 ! (init ! 50 refl (tt, (tt, (record { fits = room-book .0 }, tt)))) $ pass1 ! (init ! 48 refl (tt, (tt, (record { fits = room-subj .0 }, tt)))) $ pass1 ! (init ! 46 refl (tt, (tt, (record { fits = room-pred .0 }, tt)))) $
-        pass1 ! (init ! 44 refl (tt, (tt, (record { fits = room-obj .0 }, tt)))) $ pass1 ! (init ! 42 refl (tt, (tt, (record { fits = room-ann .0 }, tt)))) $ pass0 ! $
+        pass1 ! (init ! 52 refl (tt, record { fits = fits-kind })) $ pass1 ! (init ! 50 refl (tt, (tt, (record { fits = room-book .0 }, tt)))) $ pass1 ! (init ! 48 refl (tt, record { fits = fits-start })) $ pass1 ! (init ! 46 refl (tt, (tt, (record { fits = room-subj .0 }, tt)))) $ pass1 ! (init ! 44 refl (tt, (tt, (record { fits = room-pred .0 }, tt)))) $
+        pass1 ! (init ! 42 refl (tt, (tt, (record { fits = room-obj .0 }, tt)))) $ pass1 ! (init ! 40 refl (tt, (tt, (record { fits = room-ann .0 }, tt)))) $ pass0 ! $
         move ! (56 ∷ 57 ∷ []) $ cut (All ∷ ‵ Owned ∷ []) (‵ Tok ∷ ‵ Book ∷ ‵ (held l) ∷ []) _ parts $ begins l₀ l₁ l₂ l₃ l₄ l₅ l₆ l₇ l₈ l₉ l₁₀ l₁₁ l₁₂ l₁₃ l₁₄ l₁₅ l₁₆ l₁₇ l₁₈ l₁₉ l₂₀ l₂₁ l₂₂ l₂₃ l₂₄ l₂₅ l₂₆ l₂₇))))))))))))))))))))))))))))
 
 module _ {M : Type 1} (𝓤 : URA M) (H : Heap 𝓤) (A : Atoms 𝓤) (W : Given 𝓤 H A) (mem : Memory → SProp 𝓤) (run : Routine → Fun 𝓤) (𝓣 : Tables 𝓤 H) (known-stand : Triple 𝓤 (𝓣 .C #stand) (Stand 𝓤 H A mem run)) (known-field : Triple 𝓤 (𝓣 .C #field) (FieldThere 𝓤 H A mem run)) (known-read : Triple 𝓤 (𝓣 .C #read-field) (ReadField 𝓤 H A mem run)) (known-moved : Triple 𝓤 (𝓣 .C #moved) (Moved 𝓤 H A mem run)) where
   walks : Walks 𝓤 H A f.ended stayed (WpFn 𝓤 H (𝓣 .C) (𝓣 .Λ) code.function) (f.clauses 𝓤 H A mem run)
-  walks = walked 𝓤 H A f.ended stayed (f.clauses 𝓤 H A mem run) (WpFn 𝓤 H (𝓣 .C) (𝓣 .Λ) code.function) (λ κs. (uint-vals w8, (slice-vals, (slice-vals, (slice-vals, (slice-vals, (slice-vals, tt)))))))
-      (λ κs. (uint-tells w8, (shr-slice-tells (named 0) (κs .0) u8, (mut-slice-tells (named 1) (κs .1 .0) u16, (mut-slice-tells (named 2) (κs .1 .1 .0) u16, (mut-slice-tells (named 3) (κs .1 .1 .1 .0) u16, (mut-slice-tells (named 4) (κs .1 .1 .1 .1 .0) u64, tt)))))))
-      (λ κs qs bounds a g are. needs 𝓤 (Fresh (a .0) (lanes (a .1 .1 .0 .now) (a .1 .1 .1 .0 .now) (a .1 .1 .1 .1 .0 .now) (a .1 .1 .1 .1 .1 .0 .now))) _ (λ fresh.
-      walk 𝓤 H A W mem run (κs .0) (κs .1 .0) (κs .1 .1 .0) (κs .1 .1 .1 .0) (κs .1 .1 .1 .1 .0) (qs .0) (qs .1 .0) (qs .1 .1 .0) (qs .1 .1 .1 .0) (qs .1 .1 .1 .1 .0) (a .0) (a .1 .0) (a .1 .1 .0) (a .1 .1 .1 .0) (a .1 .1 .1 .1 .0) (a .1 .1 .1 .1 .1 .0)
-      (are .0 .1) (are .1 .0 .0 .1) (are .1 .1 .0 .0 .1) (are .1 .1 .1 .0 .0 .1) (are .1 .1 .1 .1 .0 .0 .1) (are .1 .1 .1 .1 .1 .0 .0 .1) fresh 𝓣 known-stand known-field known-read known-moved))
+  walks = walked 𝓤 H A f.ended stayed (f.clauses 𝓤 H A mem run) (WpFn 𝓤 H (𝓣 .C) (𝓣 .Λ) code.function) (λ κs. (uint-vals w8, (slice-vals, (uint-vals w64, (slice-vals, (slice-vals, (slice-vals, (slice-vals, tt))))))))
+      (λ κs. (uint-tells w8, (shr-slice-tells (named 0) (κs .0) u8, (uint-tells w64, (mut-slice-tells (named 1) (κs .1 .0) u16, (mut-slice-tells (named 2) (κs .1 .1 .0) u16, (mut-slice-tells (named 3) (κs .1 .1 .1 .0) u16, (mut-slice-tells (named 4) (κs .1 .1 .1 .1 .0) u64, tt))))))))
+      (λ κs qs bounds a g are. needs 𝓤 (Fresh (a .0) (lanes (a .1 .1 .1 .0 .now) (a .1 .1 .1 .1 .0 .now) (a .1 .1 .1 .1 .1 .0 .now) (a .1 .1 .1 .1 .1 .1 .0 .now))) _ (λ fresh.
+      walk 𝓤 H A W mem run (κs .0) (κs .1 .0) (κs .1 .1 .0) (κs .1 .1 .1 .0) (κs .1 .1 .1 .1 .0) (qs .0) (qs .1 .0) (qs .1 .1 .0) (qs .1 .1 .1 .0) (qs .1 .1 .1 .1 .0) (a .0) (a .1 .0) (a .1 .1 .0) (a .1 .1 .1 .0) (a .1 .1 .1 .1 .0) (a .1 .1 .1 .1 .1 .0) (a .1 .1 .1 .1 .1 .1 .0)
+      (are .0 .1) (are .1 .1 .0 .1) (are .1 .0 .0 .1) (are .1 .1 .1 .0 .0 .1) (are .1 .1 .1 .1 .0 .0 .1) (are .1 .1 .1 .1 .1 .0 .0 .1) (are .1 .1 .1 .1 .1 .1 .0 .0 .1) fresh 𝓣 known-stand known-field known-read known-moved))
 
   meets : Meets 𝓤 H A f.signature (WpFn 𝓤 H (𝓣 .C) (𝓣 .Λ) code.function) (f.spec 𝓤 H A mem run)
-  meets = walk-meets 𝓤 H A f.ended stayed W (goes-none 𝓤 H A W 5 (λ _. u8) yes (λ κs x f. refl), (goes-none-slice 𝓤 H A W 5 (0 ∷ []) tt (plain (λ _. u8)) yes, (goes-slice 𝓤 H A W 5 1 tt (plain (λ _. u16)), (goes-slice 𝓤 H A W 5 2 tt (plain (λ _. u16)), (goes-slice 𝓤 H A W 5 3 tt (plain (λ _. u16)), (goes-slice 𝓤 H A W 5 4 tt (plain (λ _. u64)), tt))))))
+  meets = walk-meets 𝓤 H A f.ended stayed W (goes-none 𝓤 H A W 5 (λ _. u8) yes (λ κs x f. refl), (goes-none-slice 𝓤 H A W 5 (0 ∷ []) tt (plain (λ _. u8)) yes, (goes-none 𝓤 H A W 5 (λ _. usize) yes (λ κs x f. refl), (goes-slice 𝓤 H A W 5 1 tt (plain (λ _. u16)), (goes-slice 𝓤 H A W 5 2 tt (plain (λ _. u16)), (goes-slice 𝓤 H A W 5 3 tt (plain (λ _. u16)), (goes-slice 𝓤 H A W 5 4 tt (plain (λ _. u64)), tt)))))))
       (f.clauses 𝓤 H A mem run) (WpFn 𝓤 H (𝓣 .C) (𝓣 .Λ) code.function) (WpFn-mono 𝓤 H (W .laws) 𝓣 code.function) walks
 
 pub read-fields-spec : {M : Type 1} → stated.statement M

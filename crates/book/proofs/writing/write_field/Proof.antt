@@ -5,36 +5,6 @@ use borrow.Author.Needs.{needs}
 use Rattle.book.proofs.writing.write_field.Statement.{statement}
 use Rattle.book.proofs.writing.write_field.Tie as tie
 
-put-front-requires : tie.Need-put-front-requires
-put-front-requires c κs = search needs
-
-add-put-two : tie.Need-add-put-two
-add-put-two c = search needs
-
-put-two-requires : tie.Need-put-two-requires
-put-two-requires c κs = search needs
-
-add-put-two-2 : tie.Need-add-put-two-2
-add-put-two-2 c = search needs
-
-put-two-requires-2 : tie.Need-put-two-requires-2
-put-two-requires-2 c κs = search needs
-
-add-put-two-3 : tie.Need-add-put-two-3
-add-put-two-3 c = search needs
-
-put-two-requires-3 : tie.Need-put-two-requires-3
-put-two-requires-3 c κs = search needs
-
-add-put-eight : tie.Need-add-put-eight
-add-put-eight c = search needs
-
-put-eight-requires : tie.Need-put-eight-requires
-put-eight-requires c κs = search needs
-
-same-length : tie.Need-same-length
-same-length c = search needs
-
 returns : tie.Need-returns
 returns c =
     let the-args = c .before .before .before .before .before .before .before .before .before .before .before .before .before .before .before .before .before .before .before .before .before .args in
@@ -51,14 +21,14 @@ pub write-field-spec : {M : Type 1} → statement M
 write-field-spec =
     tie.close
     (tie.spec
-    put-front-requires
-    add-put-two
-    put-two-requires
-    add-put-two-2
-    put-two-requires-2
-    add-put-two-3
-    put-two-requires-3
-    add-put-eight
-    put-eight-requires
-    same-length
+    (λ c κs. search needs)
+    (λ c. search needs)
+    (λ c κs. search needs)
+    (λ c. search needs)
+    (λ c κs. search needs)
+    (λ c. search needs)
+    (λ c κs. search needs)
+    (λ c. search needs)
+    (λ c κs. search needs)
+    (λ c. search needs)
     returns)

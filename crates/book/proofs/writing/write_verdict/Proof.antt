@@ -6,18 +6,12 @@ use borrow.Author.Needs.{needs}
 use Rattle.book.proofs.writing.write_verdict.Statement.{statement}
 use Rattle.book.proofs.writing.write_verdict.Tie as tie
 
-kind-refusal-requires : tie.Need-kind-refusal-requires
-kind-refusal-requires c κs = search needs
-
 returns : tie.Need-returns
 returns c =
     let the-args = c .before .before .before .before .before .before .args in
     let the-kind-refusal = c .before .kind-refusal in
     let the-if1 = c .if1 in
     write-by-kind (the-args .kind) (the-args .base) (lanes (the-args .subj .now) (the-args .pred .now) (the-args .obj .now) (the-args .ann .now)) (the-args .count) (the-args .room) _ (the-kind-refusal .ensures) (the-if1 .taken)
-
-base-refusal-requires : tie.Need-base-refusal-requires
-base-refusal-requires c κs = search needs
 
 returns-2 : tie.Need-returns-2
 returns-2 c =
@@ -27,9 +21,6 @@ returns-2 c =
     let the-base-refusal = c .before .base-refusal in
     let the-if2 = c .if2 in
     write-by-base (the-args .kind) (the-args .base) (lanes (the-args .subj .now) (the-args .pred .now) (the-args .obj .now) (the-args .ann .now)) (the-args .count) (the-args .room) _ (the-kind-refusal .ensures) (the-if1 .left) _ (the-base-refusal .ensures) (the-if2 .taken)
-
-check-requires : tie.Need-check-requires
-check-requires c κs = search needs
 
 returns-3 : tie.Need-returns-3
 returns-3 c =
@@ -42,8 +33,8 @@ returns-3 c =
     let the-if3 = c .if3 in
     write-by-table (the-args .kind) (the-args .base) (lanes (the-args .subj .now) (the-args .pred .now) (the-args .obj .now) (the-args .ann .now)) (the-args .count) (the-args .room) _ (the-kind-refusal .ensures) (the-if1 .left) _ (the-base-refusal .ensures) (the-if2 .left) _ (the-check .ensures) (the-if3 .taken)
 
-mul-room-number : tie.Need-mul-room-number
-mul-room-number c =
+book-length-requires : tie.Need-book-length-requires
+book-length-requires c κs =
     let the-args = c .before .before .before .before .before .before .before .before .before .before .before .args in
     let the-kind-refusal = c .before .before .before .before .before .before .kind-refusal in
     let the-if1 = c .before .before .before .before .before .if1 in
@@ -53,46 +44,31 @@ mul-room-number c =
     let the-if3 = c .if3 in
     let s = written-sound (the-args .kind) (the-args .base) (lanes (the-args .subj .now) (the-args .pred .now) (the-args .obj .now) (the-args .ann .now)) (the-args .count) (the-args .room) _ (the-kind-refusal .ensures) (the-if1 .left) _ (the-base-refusal .ensures) (the-if2 .left) _ (the-check .ensures) (the-if3 .left) in
     omega (arith, s .within, s .long)
-
-add-room-number : tie.Need-add-room-number
-add-room-number c =
-    let the-args = c .before .before .before .before .before .before .before .before .before .before .before .args in
-    let the-kind-refusal = c .before .before .before .before .before .before .kind-refusal in
-    let the-if1 = c .before .before .before .before .before .if1 in
-    let the-base-refusal = c .before .before .before .before .base-refusal in
-    let the-if2 = c .before .before .before .if2 in
-    let the-check = c .before .before .check in
-    let the-if3 = c .if3 in
-    let s = written-sound (the-args .kind) (the-args .base) (lanes (the-args .subj .now) (the-args .pred .now) (the-args .obj .now) (the-args .ann .now)) (the-args .count) (the-args .room) _ (the-kind-refusal .ensures) (the-if1 .left) _ (the-base-refusal .ensures) (the-if2 .left) _ (the-check .ensures) (the-if3 .left) in
-    omega (arith, s .within, s .long)
-
-room-number-requires : tie.Need-room-number-requires
-room-number-requires c κs = search needs
 
 returns-4 : tie.Need-returns-4
 returns-4 c =
-    let the-args = c .before .before .before .before .before .before .before .before .before .before .before .before .args in
-    let the-kind-refusal = c .before .before .before .before .before .before .before .kind-refusal in
-    let the-if1 = c .before .before .before .before .before .before .if1 in
-    let the-base-refusal = c .before .before .before .before .before .base-refusal in
-    let the-if2 = c .before .before .before .before .if2 in
-    let the-check = c .before .before .before .check in
-    let the-if3 = c .before .if3 in
+    let the-args = c .before .before .before .before .before .before .before .before .before .before .before .before .before .args in
+    let the-kind-refusal = c .before .before .before .before .before .before .before .before .kind-refusal in
+    let the-if1 = c .before .before .before .before .before .before .before .if1 in
+    let the-base-refusal = c .before .before .before .before .before .before .base-refusal in
+    let the-if2 = c .before .before .before .before .before .if2 in
+    let the-check = c .before .before .before .before .check in
+    let the-if3 = c .before .before .if3 in
+    let the-book-length = c .before .book-length in
     let the-room-number = c .room-number in
     write-by-room (the-args .kind) (the-args .base) (lanes (the-args .subj .now) (the-args .pred .now) (the-args .obj .now) (the-args .ann .now)) (the-args .count) (the-args .room) _ (the-kind-refusal .ensures) (the-if1 .left) _ (the-base-refusal .ensures) (the-if2 .left) _ (the-check .ensures) (the-if3 .left)
-    _ (the-room-number .ensures)
+    _ (the-book-length .ensures) _ (the-room-number .ensures)
 
 pub write-verdict-spec : {M : Type 1} → statement M
 write-verdict-spec =
     tie.close
     (tie.spec
-    kind-refusal-requires
+    (λ c κs. search needs)
     returns
-    base-refusal-requires
+    (λ c κs. search needs)
     returns-2
-    check-requires
+    (λ c κs. search needs)
     returns-3
-    mul-room-number
-    add-room-number
-    room-number-requires
+    book-length-requires
+    (λ c κs. search needs)
     returns-4)

@@ -6,21 +6,6 @@ use borrow.Author.Needs.{needs}
 use Rattle.field.proofs.number.four.Statement.{statement}
 use Rattle.field.proofs.number.four.Tie as tie
 
-pair-requires : tie.Need-pair-requires
-pair-requires c κs = search needs
-
-add-pair : tie.Need-add-pair
-add-pair c = search needs
-
-pair-requires-2 : tie.Need-pair-requires-2
-pair-requires-2 c κs = search needs
-
-mul-result : tie.Need-mul-result
-mul-result c = search needs
-
-add-result : tie.Need-add-result
-add-result c = search needs
-
 returns : tie.Need-returns
 unfolding fourAt
 returns c =
@@ -30,4 +15,4 @@ returns c =
 
 pub four-spec : {M : Type 1} → statement M
 four-spec =
-    tie.close (tie.spec pair-requires add-pair pair-requires-2 mul-result add-result returns)
+    tie.close (tie.spec (λ c κs. search needs) (λ c. search needs) (λ c κs. search needs) (λ c. search needs) (λ c. search needs) returns)

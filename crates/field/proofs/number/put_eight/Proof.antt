@@ -5,18 +5,6 @@ use Rattle.field.proofs.Writing.{length-four, written-both}
 use Rattle.field.proofs.number.put_eight.Statement.{statement}
 use Rattle.field.proofs.number.put_eight.Tie as tie
 
-put-four-requires : tie.Need-put-four-requires
-put-four-requires c κs = search needs
-
-add-put-four : tie.Need-add-put-four
-add-put-four c = search needs
-
-put-four-requires-2 : tie.Need-put-four-requires-2
-put-four-requires-2 c κs = search needs
-
-same-length : tie.Need-same-length
-same-length c = search needs
-
 returns : tie.Need-returns
 unfolding eightBytes
 returns c =
@@ -27,4 +15,4 @@ returns c =
 
 pub put-eight-spec : {M : Type 1} → statement M
 put-eight-spec =
-    tie.close (tie.spec put-four-requires add-put-four put-four-requires-2 same-length returns)
+    tie.close (tie.spec (λ c κs. search needs) (λ c. search needs) (λ c κs. search needs) (λ c. search needs) returns)

@@ -9,12 +9,6 @@ use Rattle.field.proofs.Writing.{length-two, written-one, written-both}
 use Rattle.field.proofs.number.put_front.Statement.{statement}
 use Rattle.field.proofs.number.put_front.Tie as tie
 
-slice-write-bytes : tie.Need-slice-write-bytes
-slice-write-bytes c = search needs
-
-add-put-two : tie.Need-add-put-two
-add-put-two c = search needs
-
 put-two-requires : tie.Need-put-two-requires
 put-two-requires c κs = simp length-set (omega arith)
 
@@ -33,4 +27,4 @@ returns c =
 
 pub put-front-spec : {M : Type 1} → statement M
 put-front-spec =
-    tie.close (tie.spec slice-write-bytes add-put-two put-two-requires same-length returns)
+    tie.close (tie.spec (λ c. search needs) (λ c. search needs) put-two-requires same-length returns)

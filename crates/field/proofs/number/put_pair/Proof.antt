@@ -6,17 +6,8 @@ use Rattle.field.proofs.Writing.{written-two}
 use Rattle.field.proofs.number.put_pair.Statement.{statement}
 use Rattle.field.proofs.number.put_pair.Tie as tie
 
-slice-write-bytes : tie.Need-slice-write-bytes
-slice-write-bytes c = search needs
-
-add-bytes : tie.Need-add-bytes
-add-bytes c = search needs
-
 slice-write-bytes-2 : tie.Need-slice-write-bytes-2
 slice-write-bytes-2 c = simp length-set (omega arith)
-
-same-length : tie.Need-same-length
-same-length c = search needs
 
 returns : tie.Need-returns
 returns c =
@@ -25,4 +16,4 @@ returns c =
 
 pub put-pair-spec : {M : Type 1} → statement M
 put-pair-spec =
-    tie.close (tie.spec slice-write-bytes add-bytes slice-write-bytes-2 same-length returns)
+    tie.close (tie.spec (λ c. search needs) (λ c. search needs) slice-write-bytes-2 (λ c. search needs) returns)

@@ -4,18 +4,6 @@ use borrow.Author.Needs.{needs}
 use Rattle.table.proofs.judge.not_above.Statement.{statement}
 use Rattle.table.proofs.judge.not_above.Tie as tie
 
-returns : tie.Need-returns
-returns c = search needs
-
-key-at-requires : tie.Need-key-at-requires
-key-at-requires c κs = search needs
-
-sub-key-at : tie.Need-sub-key-at
-sub-key-at c = search needs
-
-key-at-requires-2 : tie.Need-key-at-requires-2
-key-at-requires-2 c κs = search needs
-
 returns-2 : tie.Need-returns-2
 returns-2 c =
     let the-key-at = c .before .key-at in
@@ -26,4 +14,4 @@ returns-2 c =
 
 pub not-above-spec : {M : Type 1} → statement M
 not-above-spec =
-    tie.close (tie.spec returns key-at-requires sub-key-at key-at-requires-2 returns-2)
+    tie.close (tie.spec (λ c. search needs) (λ c κs. search needs) (λ c. search needs) (λ c κs. search needs) returns-2)

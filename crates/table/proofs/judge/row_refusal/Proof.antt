@@ -5,42 +5,12 @@ use borrow.Author.Needs.{needs}
 use Rattle.table.proofs.judge.row_refusal.Statement.{statement}
 use Rattle.table.proofs.judge.row_refusal.Tie as tie
 
-mul-triple-refusal : tie.Need-mul-triple-refusal
-mul-triple-refusal c = search needs
-
-shared-slice-read-triple-refusal : tie.Need-shared-slice-read-triple-refusal
-shared-slice-read-triple-refusal c = search needs
-
-mul-triple-refusal-2 : tie.Need-mul-triple-refusal-2
-mul-triple-refusal-2 c = search needs
-
-shared-slice-read-triple-refusal-2 : tie.Need-shared-slice-read-triple-refusal-2
-shared-slice-read-triple-refusal-2 c = search needs
-
-mul-triple-refusal-3 : tie.Need-mul-triple-refusal-3
-mul-triple-refusal-3 c = search needs
-
-shared-slice-read-triple-refusal-3 : tie.Need-shared-slice-read-triple-refusal-3
-shared-slice-read-triple-refusal-3 c = search needs
-
-mul-triple-refusal-4 : tie.Need-mul-triple-refusal-4
-mul-triple-refusal-4 c = search needs
-
-shared-slice-read-triple-refusal-4 : tie.Need-shared-slice-read-triple-refusal-4
-shared-slice-read-triple-refusal-4 c = search needs
-
-triple-refusal-requires : tie.Need-triple-refusal-requires
-triple-refusal-requires c κs = search needs
-
 returns : tie.Need-returns
 returns c =
     let the-args = c .before .before .before .before .before .before .before .before .before .before .args in
     let the-triple-refusal = c .before .triple-refusal in
     let the-if1 = c .if1 in
     row-by-triple (the-args .kind) (lanes (the-args .subj .now) (the-args .pred .now) (the-args .obj .now) (the-args .ann .now)) (the-args .i) _ (the-triple-refusal .ensures) (the-if1 .taken)
-
-not-above-requires : tie.Need-not-above-requires
-not-above-requires c κs = search needs
 
 returns-2 : tie.Need-returns-2
 returns-2 c =
@@ -66,16 +36,16 @@ pub row-refusal-spec : {M : Type 1} → statement M
 row-refusal-spec =
     tie.close
     (tie.spec
-    mul-triple-refusal
-    shared-slice-read-triple-refusal
-    mul-triple-refusal-2
-    shared-slice-read-triple-refusal-2
-    mul-triple-refusal-3
-    shared-slice-read-triple-refusal-3
-    mul-triple-refusal-4
-    shared-slice-read-triple-refusal-4
-    triple-refusal-requires
+    (λ c. search needs)
+    (λ c. search needs)
+    (λ c. search needs)
+    (λ c. search needs)
+    (λ c. search needs)
+    (λ c. search needs)
+    (λ c. search needs)
+    (λ c. search needs)
+    (λ c κs. search needs)
     returns
-    not-above-requires
+    (λ c κs. search needs)
     returns-2
     returns-3)

@@ -23,9 +23,6 @@ loop-holds c =
     let the-args = c .before .before .before .before .args in
     (search needs, rows-start (the-args .kind) (lanes (the-args .subj .now) (the-args .pred .now) (the-args .obj .now) (the-args .ann .now)) (the-args .count))
 
-row-refusal-requires : tie.Need-row-refusal-requires Inv-loop μ-loop
-row-refusal-requires c κs = search needs
-
 returns : tie.Need-returns Inv-loop μ-loop
 returns c =
     let the-args = c .before .before .before .before .before .before .before .before .args in
@@ -34,12 +31,6 @@ returns c =
     let the-row-refusal = c .before .row-refusal in
     let the-if1 = c .if1 in
     rows-stop (the-args .kind) (lanes (the-args .subj .now) (the-args .pred .now) (the-args .obj .now) (the-args .ann .now)) (the-args .count) (the-loop .i) _ (omega (arith, the-loop-test .taken)) (the-row-refusal .ensures) (the-if1 .taken) (the-loop .inv .1)
-
-add-i : tie.Need-add-i Inv-loop μ-loop
-add-i c = search needs
-
-loop-less : tie.Need-loop-less Inv-loop μ-loop
-loop-less c = search needs
 
 loop-again : tie.Need-loop-again Inv-loop μ-loop
 loop-again c =
@@ -64,9 +55,9 @@ rows-verdict-spec =
     Inv-loop
     μ-loop
     loop-holds
-    row-refusal-requires
+    (λ c κs. search needs)
     returns
-    add-i
-    loop-less
+    (λ c. search needs)
+    (λ c. search needs)
     loop-again
     returns-2)

@@ -1,12 +1,10 @@
 -- By the first term, predicate or annotation that is refused.
 use Rattle.table.specs.Rows.{row}
-use Rattle.table.proofs.Judging.{term-illegal, term-legal, triple-by-subject, triple-by-object, triple-by-predicate, triple-by-annotation}
+use Rattle.term.proofs.Sorts.{term-legal, term-illegal}
+use Rattle.table.proofs.Judging.{triple-by-subject, triple-by-object, triple-by-predicate, triple-by-annotation}
 use borrow.Author.Needs.{needs}
 use Rattle.table.proofs.judge.triple_refusal.Statement.{statement}
 use Rattle.table.proofs.judge.triple_refusal.Tie as tie
-
-term-refusal-requires : tie.Need-term-refusal-requires
-term-refusal-requires c κs = search needs
 
 returns : tie.Need-returns
 returns c =
@@ -14,9 +12,6 @@ returns c =
     let the-term-refusal = c .before .term-refusal in
     let the-if1 = c .if1 in
     triple-by-subject (the-args .kind) (row (the-args .s) (the-args .p) (the-args .o) (the-args .a)) (term-illegal (the-args .s) _ (the-term-refusal .ensures) (the-if1 .taken))
-
-term-refusal-requires-2 : tie.Need-term-refusal-requires-2
-term-refusal-requires-2 c κs = search needs
 
 returns-2 : tie.Need-returns-2
 returns-2 c =
@@ -26,9 +21,6 @@ returns-2 c =
     let the-term-refusal2 = c .before .term-refusal2 in
     let the-if2 = c .if2 in
     triple-by-object (the-args .kind) (row (the-args .s) (the-args .p) (the-args .o) (the-args .a)) (term-legal (the-args .s) _ (the-term-refusal .ensures) (the-if1 .left)) (term-illegal (the-args .o) _ (the-term-refusal2 .ensures) (the-if2 .taken))
-
-predicate-refusal-requires : tie.Need-predicate-refusal-requires
-predicate-refusal-requires c κs = search needs
 
 returns-3 : tie.Need-returns-3
 returns-3 c =
@@ -41,9 +33,6 @@ returns-3 c =
     let the-if3 = c .if3 in
     triple-by-predicate (the-args .kind) (row (the-args .s) (the-args .p) (the-args .o) (the-args .a)) _ (term-legal (the-args .s) _ (the-term-refusal .ensures) (the-if1 .left)) (term-legal (the-args .o) _ (the-term-refusal2 .ensures) (the-if2 .left))
     (the-predicate-refusal .ensures) (the-if3 .taken)
-
-annotation-refusal-requires : tie.Need-annotation-refusal-requires
-annotation-refusal-requires c κs = search needs
 
 returns-4 : tie.Need-returns-4
 returns-4 c =
@@ -62,11 +51,11 @@ pub triple-refusal-spec : {M : Type 1} → statement M
 triple-refusal-spec =
     tie.close
     (tie.spec
-    term-refusal-requires
+    (λ c κs. search needs)
     returns
-    term-refusal-requires-2
+    (λ c κs. search needs)
     returns-2
-    predicate-refusal-requires
+    (λ c κs. search needs)
     returns-3
-    annotation-refusal-requires
+    (λ c κs. search needs)
     returns-4)

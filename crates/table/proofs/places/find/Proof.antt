@@ -1,6 +1,6 @@
 -- The invariant: rows below low are below the key, and row high is not.
 use mathlib.Core.Path.{_≡_}
-use Prim.Native.Nat.{ℕ, _≤_, _<_, _-_}
+use Prim.Native.Nat.{_-_}
 use native.Mathlib.Omega.{arith}
 use Rattle.table.specs.Places.{Between}
 use Rattle.table.proofs.places.find.Statement.{statement}

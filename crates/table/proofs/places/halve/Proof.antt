@@ -4,18 +4,6 @@ use borrow.Author.Needs.{needs}
 use Rattle.table.proofs.places.halve.Statement.{statement}
 use Rattle.table.proofs.places.halve.Tie as tie
 
-sub-middle : tie.Need-sub-middle
-sub-middle c = search needs
-
-add-middle : tie.Need-add-middle
-add-middle c = search needs
-
-key-at-requires : tie.Need-key-at-requires
-key-at-requires c κs = search needs
-
-add-t13 : tie.Need-add-t13
-add-t13 c = search needs
-
 returns : tie.Need-returns
 returns c =
     let the-args = c .before .before .before .before .before .args in
@@ -33,4 +21,4 @@ returns-2 c =
     halved-down (the-args .subj .now) (the-args .pred .now) (the-args .obj .now) (the-args .count) (the-args .key) (the-args .low) (the-args .high) (the-pre) (rw (← the-key-at .ensures) (the-if1 .left))
 
 pub halve-spec : {M : Type 1} → statement M
-halve-spec = tie.close (tie.spec sub-middle add-middle key-at-requires add-t13 returns returns-2)
+halve-spec = tie.close (tie.spec (λ c. search needs) (λ c. search needs) (λ c κs. search needs) (λ c. search needs) returns returns-2)

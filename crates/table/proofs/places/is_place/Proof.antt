@@ -1,5 +1,5 @@
 -- Too far, not behind the row before, or as the row at the hint says.
-use mathlib.Core.Path.{_≡_, sym}
+use mathlib.Core.Path.{sym}
 use mathlib.Core.Bool.{false≢true}
 use mathlib.Core.Logic.{⊎-elim}
 use Prim.Native.Nat.{_-_, _<_}
@@ -16,12 +16,6 @@ returns c =
     let the-if1 = c .if1 in
     record { placed = λ e. absurd (false≢true e); elsewhere = λ _ p. omega (arith, p .within, the-if1 .taken) }
 
-sub-key-at : tie.Need-sub-key-at
-sub-key-at c = search needs
-
-key-at-requires : tie.Need-key-at-requires
-key-at-requires c κs = search needs
-
 returns-2 : tie.Need-returns-2
 returns-2 c =
     let the-args = c .before .before .before .before .before .before .before .args in
@@ -29,9 +23,6 @@ returns-2 c =
     let the-key-at = c .before .key-at in
     let the-if3 = c .if3 in
     record { placed = λ e. absurd (false≢true e); elsewhere = λ _ p. omega (arith, p .before (the-args .hint - 1) (omega (arith, the-if2 .taken)), the-key-at .ensures, the-if3 .taken) }
-
-key-at-requires-2 : tie.Need-key-at-requires-2
-key-at-requires-2 c κs = search needs
 
 returns-3 : tie.Need-returns-3
 returns-3 c =
@@ -73,4 +64,4 @@ returns-4 c =
 pub is-place-spec : {M : Type 1} → statement M
 is-place-spec =
     tie.close
-    (tie.spec returns sub-key-at key-at-requires returns-2 key-at-requires-2 returns-3 returns-4)
+    (tie.spec returns (λ c. search needs) (λ c κs. search needs) returns-2 (λ c κs. search needs) returns-3 returns-4)

@@ -13,24 +13,12 @@ Inv-loop subj pred obj count key i₀ i = (i ≤ count) × ((k : ℕ) → k < i 
 abbrev μ-loop : tie.MeasureT-loop
 μ-loop subj pred obj count key i₀ i = count - i
 
-loop-holds : tie.Need-loop-holds Inv-loop μ-loop
-loop-holds c = search needs
-
-key-at-requires : tie.Need-key-at-requires Inv-loop μ-loop
-key-at-requires c κs = search needs
-
 returns : tie.Need-returns Inv-loop μ-loop
 returns c =
     let the-loop = c .before .before .before .loop in
     let the-key-at = c .before .key-at in
     let the-if1 = c .if1 in
     record { within = the-loop .inv .0; before = the-loop .inv .1; reached = λ q. rw (← the-key-at .ensures) (the-if1 .taken) }
-
-add-i : tie.Need-add-i Inv-loop μ-loop
-add-i c = search needs
-
-loop-less : tie.Need-loop-less Inv-loop μ-loop
-loop-less c = search needs
 
 loop-again : tie.Need-loop-again Inv-loop μ-loop
 loop-again c =
@@ -50,10 +38,10 @@ place-spec =
     (tie.spec
     Inv-loop
     μ-loop
-    loop-holds
-    key-at-requires
+    (λ c. search needs)
+    (λ c κs. search needs)
     returns
-    add-i
-    loop-less
+    (λ c. search needs)
+    (λ c. search needs)
     loop-again
     returns-2)

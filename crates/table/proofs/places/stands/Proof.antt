@@ -7,9 +7,6 @@ use borrow.Author.Needs.{needs}
 use Rattle.table.proofs.places.stands.Statement.{statement}
 use Rattle.table.proofs.places.stands.Tie as tie
 
-key-at-requires : tie.Need-key-at-requires
-key-at-requires c κs = search needs
-
 returns : tie.Need-returns
 returns c =
     let the-if1 = c .before .if1 in
@@ -23,4 +20,4 @@ returns-2 : tie.Need-returns-2
 returns-2 c = record { there = λ e. absurd (false≢true e); missing = λ e q. absurd (omega arith) }
 
 pub stands-spec : {M : Type 1} → statement M
-stands-spec = tie.close (tie.spec key-at-requires returns returns-2)
+stands-spec = tie.close (tie.spec (λ c κs. search needs) returns returns-2)

@@ -5,24 +5,6 @@ use borrow.Author.Needs.{needs}
 use Rattle.table.proofs.put.join_at.Statement.{statement}
 use Rattle.table.proofs.put.join_at.Tie as tie
 
-mul-old : tie.Need-mul-old
-mul-old c = search needs
-
-slice-read-old : tie.Need-slice-read-old
-slice-read-old c = search needs
-
-join-requires : tie.Need-join-requires
-join-requires c κs = search needs
-
-mul-ann : tie.Need-mul-ann
-mul-ann c = search needs
-
-slice-write-ann : tie.Need-slice-write-ann
-slice-write-ann c = search needs
-
-same-length : tie.Need-same-length
-same-length c = search needs
-
 returns : tie.Need-returns
 returns c =
     let the-join = c .join in
@@ -35,4 +17,4 @@ returns c =
 pub join-at-spec : {M : Type 1} → statement M
 join-at-spec =
     tie.close
-    (tie.spec mul-old slice-read-old join-requires mul-ann slice-write-ann same-length returns)
+    (tie.spec (λ c. search needs) (λ c. search needs) (λ c κs. search needs) (λ c. search needs) (λ c. search needs) (λ c. search needs) returns)

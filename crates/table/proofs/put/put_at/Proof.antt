@@ -5,33 +5,12 @@ use borrow.Author.Needs.{needs}
 use Rattle.table.proofs.put.put_at.Statement.{statement}
 use Rattle.table.proofs.put.put_at.Tie as tie
 
-key-of-requires : tie.Need-key-of-requires
-key-of-requires c κs = search needs
-
-stands-requires : tie.Need-stands-requires
-stands-requires c κs = search needs
-
 join-at-requires : tie.Need-join-at-requires
 join-at-requires c κs =
     let the-stands = c .before .before .stands in
     let the-if1 = c .before .if1 in
     let the-pre = c .before .before .before .before .before .before .before .before .before .before .before .pre in
     omega (arith, the-stands .ensures .there (the-if1 .taken), the-pre .into .sound .within, the-pre .into .sound .ann-long)
-
-add-t24 : tie.Need-add-t24
-add-t24 c = search needs
-
-same-length : tie.Need-same-length
-same-length c = search needs
-
-same-length-2 : tie.Need-same-length-2
-same-length-2 c = search needs
-
-same-length-3 : tie.Need-same-length-3
-same-length-3 c = search needs
-
-same-length-4 : tie.Need-same-length-4
-same-length-4 c = search needs
 
 returns : tie.Need-returns
 returns c =
@@ -45,18 +24,6 @@ returns c =
     (the-pre .into) (the-key-of .ensures) (rw (the-key-of .ensures) (the-pre .placed))
     _ _ (the-stands .ensures .there (the-if1 .taken) .0) (the-stands .ensures .there (the-if1 .taken) .1) (the-join-at .ensures)
 
-add-more : tie.Need-add-more
-add-more c = search needs
-
-same-length-5 : tie.Need-same-length-5
-same-length-5 c = search needs
-
-same-length-6 : tie.Need-same-length-6
-same-length-6 c = search needs
-
-same-length-7 : tie.Need-same-length-7
-same-length-7 c = search needs
-
 returns-2 : tie.Need-returns-2
 returns-2 c =
     let the-args = c .before .before .before .before .before .before .before .before .before .before .before .args in
@@ -69,35 +36,11 @@ returns-2 c =
     (the-pre .into) (the-key-of .ensures) (rw (the-key-of .ensures) (the-pre .placed))
     (the-stands .ensures .missing (the-if1 .left)) (omega (arith, the-if2 .taken))
 
-open-u16-requires : tie.Need-open-u16-requires
-open-u16-requires c κs = search needs
-
-open-u16-requires-2 : tie.Need-open-u16-requires-2
-open-u16-requires-2 c κs = search needs
-
-open-u16-requires-3 : tie.Need-open-u16-requires-3
-open-u16-requires-3 c κs = search needs
-
-open-u64-requires : tie.Need-open-u64-requires
-open-u64-requires c κs = search needs
-
 add-t25 : tie.Need-add-t25
 add-t25 c =
     let the-pre = c .before .before .before .before .before .before .before .before .before .before .before .before .before .before .before .before .before .before .before .before .before .before .before .before .before .before .before .pre in
     let the-if2 = c .before .before .before .before .before .before .before .before .before .before .before .before .before .before .before .before .if2 in
     omega (arith, the-pre .placed .within, the-pre .into .sound .within, the-if2 .left)
-
-same-length-8 : tie.Need-same-length-8
-same-length-8 c = search needs
-
-same-length-9 : tie.Need-same-length-9
-same-length-9 c = search needs
-
-same-length-10 : tie.Need-same-length-10
-same-length-10 c = search needs
-
-same-length-11 : tie.Need-same-length-11
-same-length-11 c = search needs
 
 returns-3 : tie.Need-returns-3
 returns-3 c =
@@ -120,27 +63,27 @@ pub put-at-spec : {M : Type 1} → statement M
 put-at-spec =
     tie.close
     (tie.spec
-    key-of-requires
-    stands-requires
+    (λ c κs. search needs)
+    (λ c κs. search needs)
     join-at-requires
-    add-t24
-    same-length
-    same-length-2
-    same-length-3
-    same-length-4
+    (λ c. search needs)
+    (λ c. search needs)
+    (λ c. search needs)
+    (λ c. search needs)
+    (λ c. search needs)
     returns
-    add-more
-    same-length-5
-    same-length-6
-    same-length-7
+    (λ c. search needs)
+    (λ c. search needs)
+    (λ c. search needs)
+    (λ c. search needs)
     returns-2
-    open-u16-requires
-    open-u16-requires-2
-    open-u16-requires-3
-    open-u64-requires
+    (λ c κs. search needs)
+    (λ c κs. search needs)
+    (λ c κs. search needs)
+    (λ c κs. search needs)
     add-t25
-    same-length-8
-    same-length-9
-    same-length-10
-    same-length-11
+    (λ c. search needs)
+    (λ c. search needs)
+    (λ c. search needs)
+    (λ c. search needs)
     returns-3)

@@ -1,0 +1,3 @@
+-- The definitions that the specs of every crate above may cite.
+pub mod Lists
+pub mod Bits

@@ -1,0 +1,2 @@
+-- The definitions that the contracts of `rounds` cite; a reader of `closing` needs none of them.
+pub mod Rounds

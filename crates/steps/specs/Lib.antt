@@ -1,0 +1,3 @@
+-- The definitions that the contracts of `steps`, and the run and the meaning above it, cite.
+pub mod Legal
+pub mod Lane
