@@ -1,0 +1,51 @@
+-- What the parts of the code find and do.
+use mathlib.Core.Path.{_≡_}
+use mathlib.Core.Bool.{Bool, true, false, cond}
+use mathlib.Core.List.{List}
+use Prim.Native.Nat.{ℕ, _+_, _≤_}
+use lib.Dec.{ltb}
+use lib.ListN.{length, set}
+use lib.Seq.{slice, paste}
+use Rattle.names.specs.declared.Entered.{Entered}
+use Rattle.names.specs.declared.Entered.the-variants.{New, Full}
+use Rattle.names.specs.declared.find.Found.{Found}
+use Rattle.names.specs.declared.find.Found.the-variants.{Number, Missing}
+use Rattle.names.specs.Names.{Entry, NameLanes, lanesOf, startOf, entriesOf, textIn}
+use Rattle.names.specs.Entering.{Lookup, none, number, lookup, known, countOf, nextOf, hasRoom, Listing, entriesAfter, countAfter}
+
+abbrev pub foundOf : Lookup → ℕ → Found
+foundOf (number n) k = Number n
+foundOf none k = Missing k
+
+-- the number of a text that is listed, else how many are of its sort
+abbrev pub foundIn : List Entry → ℕ → List ℕ → Found
+foundIn es sort word = foundOf (lookup es sort word) (countOf sort es)
+
+-- the number of a text that has one, else the next of its sort
+abbrev pub numberFor : List Entry → ℕ → List ℕ → Found
+numberFor es sort word = foundOf (known es sort word) (nextOf es sort)
+
+-- where a number's text stands; nowhere where it has none
+pub record SpanOf (l : NameLanes) (names n from to : ℕ) : Type 0 where
+  pub rises : from ≤ to
+  pub within : to ≤ length (l .text)
+  pub bytes : slice from to (l .text) ≡ textIn (entriesOf l names) n
+
+-- an entry put behind the last
+abbrev pub appended : NameLanes → ℕ → ℕ → List ℕ → ℕ → NameLanes
+appended l names n word size =
+    lanesOf (set (l .terms) names n) (set (l .ends) names (startOf (l .ends) names + size)) (paste (l .text) (startOf (l .ends) names) word size)
+
+abbrev pub addedBy : Bool → NameLanes → NameLanes → NameLanes
+addedBy true l m = m
+addedBy false l m = l
+
+pub record Adding (l m : NameLanes) (names n : ℕ) (word : List ℕ) (size : ℕ) (taken : List ℕ) (r : Entered) : Type 0 where
+  pub answer : r ≡ cond (hasRoom (length (l .terms)) (length (l .text)) (entriesOf l names) taken) (New n) Full
+  pub lanes : m ≡ addedBy (hasRoom (length (l .terms)) (length (l .text)) (entriesOf l names) taken) l (appended l names n word size)
+
+-- an entry put behind the last whose bytes lie there already
+pub record Lying (l m : NameLanes) (names n size : ℕ) (r : Entered) : Type 0 where
+  pub answer : r ≡ cond (ltb names (length (l .terms))) (New n) Full
+  pub entries : entriesOf m (countAfter r names) ≡ entriesAfter r (entriesOf l names) (slice (startOf (l .ends) names) (startOf (l .ends) names + size) (l .text))
+  pub listing : Listing m (countAfter r names)

@@ -1,0 +1,20 @@
+-- Laws that belong to no one function, bottom to top.
+pub mod Bools
+pub mod Digits
+pub mod Resolving
+pub mod Munching
+pub mod Words
+pub mod Ending
+pub mod Running
+pub mod Marked
+pub mod Strung
+pub mod Worded
+pub mod Tokens
+pub mod Spans
+pub mod Lining
+pub mod Saying
+pub mod Hearing
+pub mod Complete
+pub mod Sound
+pub mod Encoded
+pub mod Examples

@@ -1,0 +1,155 @@
+// What writing a table as N-Triples writes of a term and of a row, and how long it is. Whether every term has a text, and whether
+// the output has room, is asked before.
+ghost use mathlib.Core.Path.{_≡_};
+ghost use Prim.Native.Nat.{_+_, _≤_};
+ghost use lib.ListN.{length};
+ghost use Rattle.field.specs.Numbers.{written};
+ghost use Rattle.names.specs.Names.{entriesOf, textOf};
+ghost use Rattle.names.specs.Lent.{namesLent, namesBefore};
+ghost use Rattle.ntwrite.specs.Written.{Fit, termBytes, partBytes, lineBytes};
+
+const OPENS: u8 = 60;
+
+const CLOSES: u8 = 62;
+
+const UNDERSCORE: u8 = 95;
+
+const COLON: u8 = 58;
+
+const BLANK: u8 = 32;
+
+const DOT: u8 = 46;
+
+const LF: u8 = 10;
+
+fn text_size(terms: &[u16], ends: &[u16], text: &[u8], names: usize, n: u16) -> usize
+    requires { ⌜ Fit (namesLent terms ends text) names ⌝ }
+    ensures { λ r. ⌜ (r ≡ length (textOf (entriesOf (namesBefore terms ends text) names) n)) × (r ≤ 32768) ⌝ }
+{
+    if n < names::five::NONE {
+        return names::five::size_of(n);
+    }
+    let span = names::find::text_of(terms, ends, text, names, n);
+    span.to - span.from
+}
+
+fn put_text(
+    out: &mut [u8],
+    at: usize,
+    terms: &[u16],
+    ends: &[u16],
+    text: &[u8],
+    names: usize,
+    n: u16,
+)
+    requires { ⌜ Fit (namesLent terms ends text) names × (at + length (textOf (entriesOf (namesLent terms ends text) names) n) ≤ length (now out)) ⌝ }
+    ensures { λ _. ⌜ now (out .exit) ≡ written (now (out .entry)) at (textOf (entriesOf (namesBefore terms ends text) names) n) ⌝ }
+{
+    if n < names::five::NONE {
+        names::five::put_five(out, at, n);
+        return;
+    }
+    let span = names::find::text_of(terms, ends, text, names, n);
+    let from = span.from;
+    let to = span.to;
+    names::texts::put(out, at, &text[from..], to - from);
+}
+
+// How many bytes a term takes.
+pub fn term_size(terms: &[u16], ends: &[u16], text: &[u8], names: usize, n: u16) -> usize
+    requires { ⌜ Fit (namesLent terms ends text) names ⌝ }
+    ensures { λ r. ⌜ (r ≡ length (termBytes (entriesOf (namesBefore terms ends text) names) n)) × (r ≤ 32770) ⌝ }
+{
+    let size = text_size(terms, ends, text, names, n);
+    if term::sort_of(n) < term::LITERAL {
+        return size + 2;
+    }
+    size
+}
+
+fn put_term(
+    out: &mut [u8],
+    at: usize,
+    terms: &[u16],
+    ends: &[u16],
+    text: &[u8],
+    names: usize,
+    n: u16,
+)
+    requires { ⌜ Fit (namesLent terms ends text) names × (at + length (termBytes (entriesOf (namesLent terms ends text) names) n) ≤ length (now out)) ⌝ }
+    ensures { λ _. ⌜ now (out .exit) ≡ written (now (out .entry)) at (termBytes (entriesOf (namesBefore terms ends text) names) n) ⌝ }
+{
+    let sort = term::sort_of(n);
+    if sort == term::NAME {
+        let size = text_size(terms, ends, text, names, n);
+        out[at] = OPENS;
+        put_text(out, at + 1, terms, ends, text, names, n);
+        out[at + 1 + size] = CLOSES;
+        return;
+    }
+    if sort == term::BLANK {
+        field::put_pair(out, at, UNDERSCORE, COLON);
+        put_text(out, at + 2, terms, ends, text, names, n);
+        return;
+    }
+    put_text(out, at, terms, ends, text, names, n);
+}
+
+// A term and the blank behind it; where the next begins.
+fn put_part(
+    out: &mut [u8],
+    at: usize,
+    terms: &[u16],
+    ends: &[u16],
+    text: &[u8],
+    names: usize,
+    n: u16,
+) -> usize
+    requires { ⌜ Fit (namesLent terms ends text) names × (at + length (partBytes (entriesOf (namesLent terms ends text) names) n) ≤ length (now out)) ⌝ }
+    ensures { λ r. ⌜ (now (out .exit) ≡ written (now (out .entry)) at (partBytes (entriesOf (namesBefore terms ends text) names) n)) × (r ≡ at + length (partBytes (entriesOf (namesBefore terms ends text) names) n)) ⌝ }
+{
+    let size = term_size(terms, ends, text, names, n);
+    put_term(out, at, terms, ends, text, names, n);
+    out[at + size] = BLANK;
+    at + size + 1
+}
+
+// How many bytes a row's line takes.
+pub fn line_size(
+    terms: &[u16],
+    ends: &[u16],
+    text: &[u8],
+    names: usize,
+    s: u16,
+    p: u16,
+    o: u16,
+) -> usize
+    requires { ⌜ Fit (namesLent terms ends text) names ⌝ }
+    ensures { λ r. ⌜ (r ≡ length (lineBytes (entriesOf (namesBefore terms ends text) names) s p o)) × (r ≤ 98315) ⌝ }
+{
+    let subject = term_size(terms, ends, text, names, s);
+    let predicate = term_size(terms, ends, text, names, p);
+    let object = term_size(terms, ends, text, names, o);
+    subject + predicate + object + 5
+}
+
+// A row's line laid into `out` from `at` on.
+pub fn put_line(
+    out: &mut [u8],
+    at: usize,
+    terms: &[u16],
+    ends: &[u16],
+    text: &[u8],
+    names: usize,
+    s: u16,
+    p: u16,
+    o: u16,
+)
+    requires { ⌜ Fit (namesLent terms ends text) names × (at + length (lineBytes (entriesOf (namesLent terms ends text) names) s p o) ≤ length (now out)) ⌝ }
+    ensures { λ _. ⌜ now (out .exit) ≡ written (now (out .entry)) at (lineBytes (entriesOf (namesBefore terms ends text) names) s p o) ⌝ }
+{
+    let second = put_part(out, at, terms, ends, text, names, s);
+    let third = put_part(out, second, terms, ends, text, names, p);
+    let last = put_part(out, third, terms, ends, text, names, o);
+    field::put_pair(out, last, DOT, LF);
+}
