@@ -1,9 +1,10 @@
 // The counter's program: a book, then questions to the end of the input, each behind a length of two bytes.
 // For each question `asked NUMBER PLACE COUNT LOOKS` and a line for each answer; `refused NUMBER PLACE` ends it.
+ghost use mathlib.Core.Path.{_≡_};
+ghost use Prim.Native.Nat.{_+_, _*_};
 ghost use Rattle.io.specs.Counts.{Counts};
 use libc::STDIN_FILENO;
 use trackvesper::CUT;
-use trackvesper::two;
 
 pub const ALL_LOOKS: u32 = 4294967295;
 
@@ -51,6 +52,12 @@ pub struct Came {
     pub length: usize,
 }
 
+fn length_of(high: u8, low: u8) -> usize
+    ensures { λ r. ⌜ r ≡ high * 256 + low ⌝ }
+{
+    (high as usize) * 256 + (low as usize)
+}
+
 // Reads a length and the bytes behind it into the front of `bytes`.
 fn next(bytes: &mut [u8]) -> Came
     ensures { λ r. ⌜ Counts (r .length) (now (bytes .exit)) ⌝ }
@@ -64,7 +71,7 @@ fn next(bytes: &mut [u8]) -> Came
             length: 0,
         };
     }
-    let length = two(&head, 0) as usize;
+    let length = length_of(head[0], head[1]);
     if bytes.len() < length {
         return Came {
             ended: false,

@@ -5,8 +5,6 @@ ghost use Prim.Native.Nat.{_<_};
 ghost use Rattle.table.specs.Lent.{lent};
 ghost use Rattle.trackvesper.specs.ClosedBook.{freshLanes, aNumber, packed, ClosedBook};
 
-// A number of two bytes, as every length is written.
-pub use field::two;
 // Tables: the check, and adding a triple.
 pub use table::Added;
 pub use table::add;
