@@ -12,6 +12,7 @@ pub mod book;
 pub mod closing;
 pub mod export;
 pub mod meaning;
+pub mod ntriples;
 pub mod pattern;
 pub mod programs;
 pub mod question;

@@ -2,7 +2,9 @@
 
 mod common;
 use std::collections::BTreeMap;
+use trial::ntriples::{self, names, Names};
 use trial::random::{self, books, closings, counters, questions, steps as lists, tables, Random};
+use trial::random::{files, lists as written};
 use trial::steps::{self, Step};
 use trial::table::{self, Lanes};
 use trial::{book, closing, programs, question};
@@ -210,4 +212,125 @@ fn counters_deal_books_and_questions() {
     };
     assert!(met("asked", "0") > 150 && met("asked", "16") > 50, "{lines:?}");
     assert!(met("refused", "1") > 20 && met("asked", "12") > 2, "{lines:?}");
+}
+
+#[test]
+fn files_meet_every_number() {
+    let mut random = Random::new(61);
+    let (mut met, mut exact) = (Met::new(), 0);
+    let (mut most, mut longest, mut full) = (BTreeMap::new(), BTreeMap::new(), 0);
+    for _ in 0..12_000 {
+        let case = files::reading(&mut random);
+        let (mut lanes, mut names) = (case.lanes.clone(), case.names.clone());
+        let out = ntriples::read_triples(case.kind, case.ann, &case.file, &mut lanes, &mut names);
+        meet(&mut met, out.number);
+        *longest.entry(case.file.len()).or_insert(0) += 1;
+        if out.number == 0 {
+            *most.entry(out.names).or_insert(0) += 1;
+            full += usize::from(out.count == 1024);
+            let end = names.ends.get(out.names.wrapping_sub(1)).copied().unwrap_or(0);
+            let fits = out.names == names.room() && usize::from(end) == names.text.len();
+            exact += usize::from(fits && out.count > 0 && out.count == lanes.room());
+            *longest.entry(100_000 + usize::from(end)).or_insert(0) += 1;
+        }
+    }
+    assert_met(&met, &[0, 4, 10, 11, 12, 13, 26, 27], 60);
+    assert!(exact > 400 && full > 5, "{exact} {full}");
+    // Files, lists and texts at their limits.
+    for length in [65_534, 65_535, 65_536, 65_537, 132_767, 132_768] {
+        assert!(longest.get(&length).is_some_and(|times| *times > 5), "{length} {longest:?}");
+    }
+    assert!(most[&511] > 5 && most[&512] > 5 && most.keys().max() == Some(&512), "{most:?}");
+}
+
+/// Which of the limits of a list a file goes over by one.
+#[test]
+fn files_go_over_each_limit_of_the_list_by_one() {
+    let mut random = Random::new(62);
+    let mut met = BTreeMap::new();
+    for _ in 0..400 {
+        for file in [files::many_names(&mut random), files::much_text(&mut random)] {
+            let (mut lanes, mut names) = (Lanes::zero(1024), Names::zero(512, names::MOST_TEXT));
+            let out = ntriples::read_triples(1, 1, &file, &mut lanes, &mut names);
+            let end = names.ends.get(out.names.wrapping_sub(1)).copied().unwrap_or(0);
+            *met.entry((out.number, out.names.max(100), end.max(30_000))).or_insert(0) += 1;
+        }
+    }
+    for limit in [(0, 511, 30_000), (0, 512, 30_000), (0, 100, 32_767), (0, 100, 32_768)] {
+        assert!(met[&limit] > 30, "{met:?}");
+    }
+    assert!(met[&(27, 100, 30_000)] > 200, "{met:?}");
+}
+
+#[test]
+fn writings_meet_every_number() {
+    let mut random = Random::new(63);
+    let (mut met, mut of_list) = (Met::new(), Met::new());
+    let (mut exact, mut short, mut first) = (0, 0, 0);
+    for _ in 0..24_000 {
+        let case = written::writing(&mut random);
+        let written::Writing { kind, lanes, count, names, listed, out } = &case;
+        let mut bytes = out.clone();
+        let done = ntriples::write_triples(*kind, lanes, *count, names, *listed, &mut bytes);
+        meet(&mut met, done.number);
+        if table::check(*kind, lanes, *count).done() {
+            meet(&mut of_list, done.number);
+        }
+        let needed = ntriples::writing::judge(*kind, lanes, *count, names, *listed);
+        let needed = needed.map_or(0, |bytes| bytes.len());
+        exact += usize::from(done.number == 0 && needed > 0 && out.len() == needed);
+        short += usize::from(done.number == 12 && out.len() + 1 == needed);
+        first += usize::from(done.number == 39 && done.place > 0);
+        assert_eq!(bytes[done.length..], out[done.length..]);
+    }
+    assert_met(&met, &[0, 4, 8, 9, 10, 11, 12, 14, 15, 39], 100);
+    assert_met(&of_list, &[0, 11, 12, 14, 39], 400);
+    assert!(exact > 2000 && short > 1000 && first > 1000, "{exact} {short} {first}");
+}
+
+/// Why a term has no text.
+fn cause(names: &Names, listed: usize, number: u16) -> &'static str {
+    let at = names.terms.iter().take(listed).position(|term| *term == number);
+    match (at, at.and_then(|at| names.entry(at))) {
+        (None, _) => "no entry",
+        (Some(at), None) if usize::from(names.ends[at]) > names.text.len() => "end past the text",
+        (Some(_), None) => "falling end",
+        (Some(_), Some(_)) => "text not legal",
+    }
+}
+
+#[test]
+fn writings_meet_every_cause_of_39() {
+    let mut random = Random::new(64);
+    let mut met = BTreeMap::new();
+    let mut count_one = |word: &'static str| *met.entry(word).or_insert(0) += 1;
+    for _ in 0..16_000 {
+        let case = written::writing(&mut random);
+        let written::Writing { kind, lanes, count, names, listed, out } = &case;
+        let mut bytes = out.clone();
+        let done = ntriples::write_triples(*kind, lanes, *count, names, *listed, &mut bytes);
+        let rows = table::rows(lanes, *count);
+        let twice = |number: &u16| names.terms.iter().filter(|term| *term == number).count() > 1;
+        if let (39, Some(((subj, pred, obj), _))) = (done.number, rows.get(done.place as usize)) {
+            let missing = |number: &u16| names.text_of(*listed, *number).is_none();
+            match [*subj, *pred, *obj].into_iter().find(missing) {
+                Some(number) => count_one(cause(names, *listed, number)),
+                None => count_one("literal subject"),
+            }
+        } else if done.number == 0 && done.length > 0 {
+            let used = rows.iter().flat_map(|((subj, pred, obj), _)| [*subj, *pred, *obj]);
+            let used: Vec<u16> = used.collect();
+            if used.iter().any(twice) {
+                count_one("done, a number listed twice");
+            }
+            if used.iter().any(|number| *number < 5 && names.terms[..*listed].contains(number)) {
+                count_one("done, one of the five listed");
+            }
+            if (0..*listed).any(|at| names.entry(at).is_none()) {
+                count_one("done, an entry unfit that no row needs");
+            }
+        }
+    }
+    assert_eq!(met.len(), 8, "{met:?}");
+    assert!(met.values().all(|times| *times > 100), "{met:?}");
 }

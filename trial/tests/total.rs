@@ -2,6 +2,7 @@
 //! numbers that overflow.
 
 mod common;
+use trial::ntriples::{read_triples, write_triples, Names, Sort, Text};
 use trial::pattern::{AnnSlot, Slot};
 use trial::random::{Random, BAD_TERMS};
 use trial::steps::{self, Step};
@@ -135,4 +136,74 @@ fn deep_questions() {
         (bytes[at + 1], bytes[at + 2]) = (high, low);
     }
     assert_eq!(common::compiled(1, &bytes), (20, 96));
+}
+
+#[test]
+fn makers_lists_of_any_length_and_content() {
+    let file = b"<m:a> <m:p> \"x\" .\n_:b <m:p> <m:q> .";
+    let lengths = [[0, 0, 0], [1, 1, 0], [0, 2, 9], [5, 5, 20], [512, 512, 32_768], [513, 513, 1]];
+    for [terms, ends, text] in lengths {
+        for fill in [0, 1, 5, 65_535] {
+            let names =
+                Names { terms: vec![fill; terms], ends: vec![fill; ends], text: vec![b'"'; text] };
+            for lanes in some_lanes() {
+                for kind in KINDS {
+                    for ann in ANNS {
+                        read_triples(kind, ann, file, &mut lanes.clone(), &mut names.clone());
+                    }
+                    for listed in [0, 1, 5, 513, usize::MAX] {
+                        for count in [0, 1, 3, usize::MAX] {
+                            let out = &mut [0; 99];
+                            write_triples(kind, &lanes, count, &names, listed, out);
+                        }
+                    }
+                }
+            }
+            for number in [0, 4, 5, 16_384, 32_768, 49_152, 65_535] {
+                assert!(names.text_of(usize::MAX, number).is_none() || number < 5);
+            }
+        }
+    }
+}
+
+/// Bytes and pieces of lines in no order, read and judged as texts.
+#[test]
+fn lines_of_any_bytes() {
+    let mut random = Random::new(53);
+    let pieces: [&[u8]; 20] = [
+        b"<m:a>",
+        b"<",
+        b">",
+        b"_:",
+        b"a",
+        b"\"",
+        b"\\",
+        b"\\u00",
+        b"\\U000",
+        b"41",
+        b"@en",
+        b"^^",
+        b".",
+        b" ",
+        b"\t",
+        b"#",
+        b"\n",
+        b"\r",
+        b"\xC3\xA9",
+        b"\xED\xA0",
+    ];
+    for _ in 0..60_000 {
+        let mut file = Vec::new();
+        for _ in 0..random.below(24) {
+            match random.below(8) {
+                0 => file.push(random.draw() as u8),
+                _ => file.extend(pieces[random.below(pieces.len())]),
+            }
+        }
+        let read = common::read_with(&file, random.below(3), random.below(5), random.below(20));
+        assert!([0, 12, 26, 27].contains(&read.out.number));
+        for sort in Sort::ALL {
+            Text { sort, bytes: file.clone() }.legal();
+        }
+    }
 }

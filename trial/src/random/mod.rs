@@ -6,6 +6,9 @@
 pub mod books;
 pub mod closings;
 pub mod counters;
+pub mod files;
+pub mod lines;
+pub mod lists;
 pub mod questions;
 pub mod steps;
 pub mod tables;

@@ -1,6 +1,7 @@
-//! Short ways to say tables, books and questions in the tests.
+//! Short ways to say tables, books, questions and makers' lists in the tests.
 #![allow(dead_code)]
 
+use trial::ntriples::{self, Names, ReadOut};
 use trial::pattern::{AnnSlot, Pattern, Slot};
 use trial::question::{self, Part, Test};
 use trial::steps::{self, Ran, Step};
@@ -129,4 +130,78 @@ pub fn run_part(
 
 pub fn behind_length(bytes: &[u8]) -> Vec<u8> {
     [&(bytes.len() as u16).to_be_bytes()[..], bytes].concat()
+}
+
+/// Table lanes full of old rows.
+pub fn old_lanes(room: usize) -> Lanes {
+    lanes(&vec![row(60_000, 50_000, 40_000, 7); room], room)
+}
+
+/// A names list full of old entries.
+pub fn old_names(room: usize, bytes: usize) -> Names {
+    Names { terms: vec![9; room], ends: vec![3; room], text: vec![b'o'; bytes] }
+}
+
+/// A names list of these entries as reading would leave it, in lanes that just hold them.
+pub fn names_of(entries: &[(u16, &str)]) -> Names {
+    let text: Vec<u8> = entries.iter().flat_map(|entry| entry.1.bytes()).collect();
+    let mut names = Names { text, ..Names::default() };
+    for (number, text) in entries {
+        let before = names.ends.last().copied().unwrap_or(0);
+        names.terms.push(*number);
+        names.ends.push(before + text.len() as u16);
+    }
+    names
+}
+
+/// A file read in kind 1 with annotation 7 into lanes full of old rows and entries.
+pub struct Read {
+    pub out: ReadOut,
+    pub lanes: Lanes,
+    pub names: Names,
+}
+
+impl Read {
+    pub fn verdict(&self) -> (u32, u64) {
+        (self.out.number, self.out.place)
+    }
+
+    pub fn triples(&self) -> Vec<(u16, u16, u16)> {
+        table::rows(&self.lanes, self.out.count).iter().map(|row| row.0).collect()
+    }
+
+    /// The entries of the list as number and text.
+    pub fn entries(&self) -> Vec<(u16, String)> {
+        let texts = (0..self.out.names).map(|at| self.names.entry(at).expect("ends that rise"));
+        let texts = texts.map(|bytes| String::from_utf8(bytes.to_vec()).expect("UTF-8"));
+        self.names.terms.iter().copied().zip(texts).collect()
+    }
+}
+
+/// Reads with room for so many rows, entries and bytes, and sees to what a refusal and a done
+/// reading leave behind.
+pub fn read_with(file: &[u8], rows: usize, entries: usize, bytes: usize) -> Read {
+    let (mut table, mut names) = (old_lanes(rows), old_names(entries, bytes));
+    let out = ntriples::read_triples(1, 7, file, &mut table, &mut names);
+    match out.number {
+        11 | 13 => assert_eq!((&table, &names), (&old_lanes(rows), &old_names(entries, bytes))),
+        0 => {
+            let zero = table::rows(&table, usize::MAX).split_off(out.count);
+            assert!(zero.iter().all(|row| *row == ((0, 0, 0), 0)));
+            assert!(names.terms[out.names..]
+                .iter()
+                .chain(&names.ends[out.names..])
+                .all(|x| *x == 0));
+            let end = names.ends[..out.names].last().copied().unwrap_or(0);
+            assert!(names.text[usize::from(end)..].iter().all(|byte| *byte == 0));
+        }
+        _ => assert_eq!((&table, &names), (&Lanes::zero(rows), &Names::zero(entries, bytes))),
+    }
+    assert!(out.number == 0 || (out.count, out.names) == (0, 0));
+    Read { out, lanes: table, names }
+}
+
+/// The same with all the room there may be.
+pub fn read_all(file: &[u8]) -> Read {
+    read_with(file, 1024, 512, 32_768)
 }
