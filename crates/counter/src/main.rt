@@ -175,21 +175,14 @@ fn ask(
     terms: &mut [u16],
     anns: &mut [u64],
 ) {
-    let made = trackvesper::compile_array(kind, question);
-    if made.number > 0 {
-        asked(made.number, made.place, 0, 0);
-        return;
-    }
-    let records = made.records;
-    let ran = trackvesper::run_array(
+    let ran = trackvesper::ask(
         kind,
         subj,
         pred,
         obj,
         ann,
         count,
-        records,
-        made.count,
+        question,
         ALL_LOOKS,
         terms,
         anns,

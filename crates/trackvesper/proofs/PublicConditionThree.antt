@@ -1,6 +1,7 @@
--- Condition 3 for the public calls: what `compile` laid in the lent records, `run` answers as the question means. Assumes nothing.
-use mathlib.Core.Path.{_≡_, refl}
-use mathlib.Core.List.{List, _++_, map}
+-- Condition 3 for the public calls: what `compile` laid in the lent records, `run` answers as the question means, and `ask` answers so by one call. Assumes nothing.
+use mathlib.Core.Path.{_≡_, refl, subst}
+use mathlib.Core.Bool.{false}
+use mathlib.Core.List.{List, [], _++_, map, append-nil}
 use Prim.Native.Nat.{ℕ, _≤_}
 use native.Mathlib.Omega.{arith}
 use lib.ListN.{length, drop, length-append, length-map}
@@ -10,11 +11,16 @@ use Rattle.question.specs.Steps.{Step}
 use Rattle.question.specs.Records.{recordOf}
 use Rattle.question.specs.Compiling.{Final, steps, refused, compiling}
 use Rattle.question.proofs.ZeroIsDone.{refusal-has-number}
-use Rattle.machine.specs.Running.{running}
-use Rattle.meaning.specs.AsMeant.{RunAsMeant}
+use Rattle.question.proofs.AtMost.{steps-at-most-48}
+use Rattle.annotation.specs.Kinds.{algebra}
+use Rattle.table.specs.Rows.{Lanes, rowsOf}
+use Rattle.table.specs.Sound.{Sound}
+use Rattle.machine.specs.Running.{answerRoom, isUnfitRoom, running, Ran}
+use Rattle.meaning.specs.AsMeant.{AsMeant, RunAsMeant}
 use Rattle.meaning.proofs.ConditionThree.{condition-three}
 use Rattle.steplist.specs.Filling.{Laid, Filling}
-use Rattle.trackvesper.specs.Answered.{Answered, EveryRunAnswers, PublicConditionThree}
+use Rattle.steplist.specs.Asking.{askedFor, asking}
+use Rattle.trackvesper.specs.Answered.{Answered, EveryRunAnswers, PublicConditionThree, AskConditionThree}
 
 -- a compiling that answers 0 has steps, and they stand in front of the records
 pub record Steps (kind : ℕ) (s : List ℕ) (before after : List StepRecord) (count : ℕ) : Type 0 where
@@ -49,3 +55,19 @@ public-condition-three kind s before after place count h =
       w .2,
       runs-answer kind (w .0) (z .st) (drop (length (z .st)) before) after count (z .counted) (z .laid) (w .3),
     )
+
+ask-answers : (kind : ℕ) (s : List ℕ) (p : Part) (st : List Step) → compiling kind s 48 ≡ steps st → RunAsMeant kind p st
+    → (l : Lanes) (n : ℕ) (terms anns : List ℕ) (allowed number place answers looks : ℕ) (terms′ anns′ : List ℕ)
+    → Sound kind l n → isUnfitRoom terms anns ≡ false
+    → Ran (asking kind l n terms anns s allowed) number place answers looks terms anns terms′ anns′
+    → Answered kind l n p allowed number place answers looks terms anns terms′ anns′
+ask-answers kind s p st e h l n terms anns allowed number place answers looks terms′ anns′ sound fit ran =
+    record {
+      outcome = running kind l n terms anns (map recordOf st) 48 (length st) allowed;
+      as-meant = subst (λ (rs : List StepRecord). AsMeant (algebra kind) (rowsOf l n) p allowed (answerRoom terms) (running kind l n terms anns rs 48 (length st) allowed)) (append-nil (map recordOf st))
+          (h l n terms anns [] 48 allowed sound fit (steps-at-most-48 kind s 48 st e));
+      reported = subst (λ (f : Final). Ran (askedFor kind l n terms anns allowed f) number place answers looks terms anns terms′ anns′) e ran;
+    }
+
+pub ask-condition-three : AskConditionThree
+ask-condition-three kind s st e = let w = condition-three kind s 48 st e in (w .0, w .1, w .2, ask-answers kind s (w .0) st e (w .3))

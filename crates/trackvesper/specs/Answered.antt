@@ -12,7 +12,10 @@ use Rattle.parts.specs.Part.{Part, parts}
 use Rattle.machine.specs.Bounded.{Outcome}
 use Rattle.machine.specs.Running.{answerRoom, isUnfitRoom, running, Ran}
 use Rattle.meaning.specs.AsMeant.{IsQuestion, AsMeant}
+use Rattle.question.specs.Steps.{Step}
+use Rattle.question.specs.Compiling.{steps, compiling}
 use Rattle.steplist.specs.Filling.{Filling}
+use Rattle.steplist.specs.Asking.{asking}
 
 -- what a call of `run` answered and left in the answer lanes is what the part means over the table's rows
 pub record Answered (kind : ℕ) (l : Lanes) (n : ℕ) (p : Part) (allowed number place answers looks : ℕ) (terms anns terms′ anns′ : List ℕ) : Type 0 where
@@ -22,10 +25,10 @@ pub record Answered (kind : ℕ) (l : Lanes) (n : ℕ) (p : Part) (allowed numbe
 
 -- any result that the contract of `run` allows for these records and this number of steps
 abbrev pub EveryRunAnswers : ℕ → Part → List StepRecord → ℕ → Type 0
-EveryRunAnswers kind p records steps =
+EveryRunAnswers kind p records count =
     (l : Lanes) (n : ℕ) (terms anns : List ℕ) (allowed number place answers looks : ℕ) (terms′ anns′ : List ℕ)
     → Sound kind l n → isUnfitRoom terms anns ≡ false
-    → Ran (running kind l n terms anns records (length records) steps allowed) number place answers looks terms anns terms′ anns′
+    → Ran (running kind l n terms anns records (length records) count allowed) number place answers looks terms anns terms′ anns′
     → Answered kind l n p allowed number place answers looks terms anns terms′ anns′
 
 -- "For every question of up to 32 parts that passes the check, turning it into the tester's flat steps and running them over any sound table of
@@ -34,3 +37,13 @@ abbrev pub PublicConditionThree : Type 0
 PublicConditionThree =
     (kind : ℕ) (s : List ℕ) (before after : List StepRecord) (place count : ℕ) → Filling kind s before 0 place count after
     → (p : Part) × IsQuestion kind s p × (parts p ≤ 32) × EveryRunAnswers kind p after count
+
+-- the same for both by one call: whatever `ask` answers for a question that compiling does not refuse
+abbrev pub AskConditionThree : Type 0
+AskConditionThree =
+    (kind : ℕ) (s : List ℕ) (st : List Step) → compiling kind s 48 ≡ steps st
+    → (p : Part) × IsQuestion kind s p × (parts p ≤ 32)
+    × ((l : Lanes) (n : ℕ) (terms anns : List ℕ) (allowed number place answers looks : ℕ) (terms′ anns′ : List ℕ)
+    → Sound kind l n → isUnfitRoom terms anns ≡ false
+    → Ran (asking kind l n terms anns s allowed) number place answers looks terms anns terms′ anns′
+    → Answered kind l n p allowed number place answers looks terms anns terms′ anns′)

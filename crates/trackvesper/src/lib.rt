@@ -19,14 +19,13 @@ pub use book::write;
 // What follows from a table.
 pub use closing::CloseDone;
 pub use closing::close;
-// Questions: checked and compiled into lent step records, and run from them; and both for whoever holds the records by value.
+// Questions: checked and compiled into lent step records, and run from them; and both by one call, with records of its own.
 pub use machine::RunDone;
 pub use question::StepRecord;
 pub use steplist::Filled;
+pub use steplist::ask;
 pub use steplist::compile;
-pub use steplist::compile_array;
 pub use steplist::run;
-pub use steplist::run_array;
 
 // What a number counts in a word that holds a length or place beside it.
 const A_NUMBER: u64 = 4294967296;
