@@ -1,42 +1,84 @@
--- A row's plans are sure, a round that changed nothing leaves a closed table, and rounds come to an end: for every set of rules that plans drive.
+-- A row's plans are sure, a round that changed nothing leaves a closed table, and rounds come to an end: for every set of rules that plans drive
+-- and that stay obeyed where nothing they meet rises.
 -- Assumes nothing.
-use mathlib.Core.Path.{_≡_, refl, sym, subst, subst₂}
+use mathlib.Core.Path.{_≡_, refl, sym, subst, subst₂, _∙_}
 use mathlib.Core.Bool.{Bool, true, false, true≢false}
 use mathlib.Core.List.{List}
-use Prim.Native.Nat.{ℕ, _-_, _≤_, _<_}
+use mathlib.Core.Logic.{_⊎_, inl, inr, ⊎-elim}
+use Prim.Native.Nat.{ℕ, _+_, _-_, _≤_, _<_}
 use native.Mathlib.Omega.{arith}
-use lib.ListN.{length}
+use lib.ListN.{length, replicate, length-replicate}
 use Rattle.ground.specs.Lists.{All}
+use Rattle.term.specs.Term.{sp}
 use Rattle.annotation.specs.Kinds.{algebra}
 use Rattle.annotation.proofs.KindLaws.{laws}
 use Rattle.table.specs.Rows.{Lanes, Triple, triple, rowAt, rowsOf, total}
 use Rattle.table.specs.Sound.{Sound}
 use Rattle.table.proofs.Soundness.{sound-list}
-use Rattle.table.proofs.Values.{RowHeld, held-row}
+use Rattle.table.proofs.Values.{RowHeld, held-row, legal-small}
+use Rattle.table.proofs.Ordering.{Tri, less, same, more, tri}
 use Rattle.table.proofs.Totals.{mostTotal, total-bound}
 use Rattle.rhodf.specs.Graph.{graphOf}
 use Rattle.rhodf.specs.Rules.{Rules}
 use Rattle.rhodf.specs.Closure.{Closed}
 use Rattle.rhodf.proofs.Growing.{rows-valued}
+use Rattle.termset.specs.Termset.{holds, words, Among}
+use Rattle.termset.proofs.Holding.{among-self, among-trans, holds-all}
 use Rattle.plans.specs.declared.Plan.{Plan}
 use Rattle.plans.specs.Plans.{offPlan, planAt, LegalPlan, Obeyed}
 use Rattle.plans.proofs.Meeting.{all-at, all-from, obeyed-lower}
 use Rattle.plans.proofs.Driven.{Driven, AllObeyed}
-use Rattle.walks.specs.Rising.{Risen, Drew}
-use Rattle.walks.specs.Walks.{Known, Planned}
-use Rattle.walks.proofs.Rising.{some-either, risen-then, drew-none, drew-so, Passed}
+use Rattle.walks.specs.Rising.{Risen, Drew, Either}
+use Rattle.walks.specs.Walks.{Known, Planned, Walked}
+use Rattle.walks.proofs.Rising.{some-either, risen-none, risen-then, drew-none, drew-so, drew-among, drew-full, goes-on, Passed, turn, which}
 use Rattle.walks.proofs.Neighbours.{row-value, row-below}
 use Rattle.walks.proofs.Walking.{planned-later}
-use Rattle.rounds.specs.Rounds.{tripleAt, RowObeyed, RowOfTable, RowDrawn, RoundDrawn, Saturated}
+use Rattle.rounds.specs.Due.{Still, Quiet, OfRow, Sets, Strayed, Marked, RowsOfThree, NextDue, Spread}
+use Rattle.rounds.specs.Rounds.{tripleAt, RowObeyed, RowOfTable, RowDrawn, RowAsked, RoundDue, RoundDrawn, Saturated}
+use Rattle.rounds.proofs.Staying.{Staying}
+use Rattle.rounds.proofs.Settling.{still-before, Settled, settled-on}
 
 -- plan k of row i of l is obeyed in another table
 abbrev pub PlanPassed : (Triple → List Plan) → ℕ → Lanes → ℕ → Lanes → ℕ → ℕ → Type 0
 PlanPassed plans kind l i m n k = Obeyed (algebra kind) (graphOf (rowsOf m n)) (planAt (plans (tripleAt l i)) k) (rowAt l i .a)
 
+-- what a round has done, before row i of the table as it is
+pub record SoFar (R : Rules) (plans : Triple → List Plan) (kind : ℕ) (due₀ : List ℕ) (l : Lanes) (n : ℕ) (m : Lanes) (changed : Bool) (n₁ : ℕ) (due rose : List ℕ) (i : ℕ) : Type 0 where
+  pub drew : Drew R kind (λ x. Unit {0}) (Passed (λ l n k. Still due₀ (tripleAt l k) ⊎ RowObeyed plans kind l n k) 0 i l n) l n m false changed n₁
+  pub due-more : Among due₀ due
+  pub sets : Sets due rose
+  pub settled : Settled plans kind due rose m n₁ i
+
+pub rows-of-three : {kind : ℕ} {l : Lanes} {n : ℕ} → Sound kind l n → RowsOfThree (l .subj) (l .pred) (l .obj) n
+rows-of-three sound = record {
+  in-subj = sound .within;
+  in-pred = omega (arith, sound .within, sound .pred-long);
+  in-obj = omega (arith, sound .within, sound .obj-long);
+}
+
+-- what rounds have done
+pub record Rounded (R : Rules) (plans : Triple → List Plan) (kind : ℕ) (l : Lanes) (n : ℕ) (m : Lanes) (n₁ : ℕ) (due rose : List ℕ) : Type 0 where
+  pub changed : Bool
+  pub risen : Risen R kind l n m false changed n₁
+  pub rows : RoundDue plans kind m n₁ due
+  pub sets : Sets due rose
+
+-- a row that meets nothing of the set that was spread meets nothing that rose
+spread-quiet : (m : Lanes) {n : ℕ} {rose rose′ : List ℕ} → Spread (m .subj) (m .pred) (m .obj) n rose rose′ → (t : Triple) → Still rose′ t
+    → Quiet rose (graphOf (rowsOf m n)) t
+spread-quiet m {n} {rose} {rose′} s t still = record { still = still-before (s .more) still; behind = λ z h. go z (held-row n (rowAt m) (triple (t .p) sp z) h) (holds rose z) refl }
+  where
+    go : (z : ℕ) → RowHeld n (rowAt m) (triple (t .p) sp z) → (b : Bool) → holds rose z ≡ b → holds rose z ≡ false
+    go z f true e =
+        let r = f .is-row in
+        let h = s .behind (f .at) (f .within) (r .same-p) (rw (r .same-o) e) in
+        absurd (true≢false (sym (rw (r .same-s) at h) ∙ still .by-predicate))
+    go z f false e = e
+
 module _ {R : Rules} {plans : Triple → List Plan} (driven : Driven R plans) {kind : ℕ} where
   -- every plan of a row, one after another
   module _ {l : Lanes} {n i : ℕ} (c : RowOfTable kind l n i) where
-    pub row-start : Drew R kind (Passed (PlanPassed plans kind l i) 0 0 l n) l n l false false n
+    pub row-start : Drew R kind (OfRow (tripleAt l i) false) (Passed (PlanPassed plans kind l i) 0 0 l n) l n l false false n
     row-start = drew-none (c .sound) (record { reached = omega arith; passed = λ k h. absurd (omega arith) })
 
     row-planned : (k : ℕ) → k < length (plans (tripleAt l i)) → Planned R kind Known (planAt (plans (tripleAt l i)) k) (rowAt l i .a) l n
@@ -59,18 +101,107 @@ module _ {R : Rules} {plans : Triple → List Plan} (driven : Driven R plans) {k
         → plan ≡ planAt (plans (tripleAt l i)) k → Planned R kind Known plan (rowAt l i .a) m n₁
     row-pursued s k q e = rw e (planned-later (row-planned k q) s)
 
-    pub row-end : {m : Lanes} {changed : Bool} {n₁ k : ℕ} → Drew R kind (Passed (PlanPassed plans kind l i) 0 k l n) l n m false changed n₁
-        → length (plans (tripleAt l i)) ≤ k → RowDrawn R plans kind l n i m false changed n₁
+    -- a plan more
+    module _ (staying : Staying plans) {m : Lanes} {c₁ other : Bool} {n₁ k : ℕ} {m₂ : Lanes} {f₂ c₂ other₂ c₃ : Bool} {n₂ : ℕ} where
+      pub row-turn : Drew R kind (OfRow (tripleAt l i) other) (Passed (PlanPassed plans kind l i) 0 k l n) l n m false c₁ n₁ → k < length (plans (tripleAt l i))
+          → Walked R kind (planAt (plans (tripleAt l i)) k) (rowAt l i .a) m n₁ m₂ f₂ c₂ n₂
+          → Strayed other c₂ (planAt (plans (tripleAt l i)) k .s) (rowAt l i .s) other₂ → Either c₁ c₂ c₃
+          → Drew R kind (OfRow (tripleAt l i) other₂) (Passed (PlanPassed plans kind l i) 0 (k + 1) l n) l n m₂ f₂ c₃ n₂
+      row-turn s q w t e = turn (drew-among s (λ _. wider)) (drew-among w own) e
+        where
+          wider : (x : ℕ) → OfRow (tripleAt l i) other x → OfRow (tripleAt l i) other₂ x
+          wider x (inl e) = inl e
+          wider x (inr h) = inr (t .keeps (h .0), h .1)
+
+          strays : (x : ℕ) → x ≡ planAt (plans (tripleAt l i)) k .s
+              → (planAt (plans (tripleAt l i)) k .s ≡ rowAt l i .s) ⊎ (planAt (plans (tripleAt l i)) k .s ≡ rowAt l i .o)
+              → other₂ ≡ true → OfRow (tripleAt l i) other₂ x
+          strays x e (inl p) o = inl (e ∙ p)
+          strays x e (inr p) o = inr (o, e ∙ p)
+
+          own : c₂ ≡ true → (x : ℕ) → x ≡ planAt (plans (tripleAt l i)) k .s → OfRow (tripleAt l i) other₂ x
+          own h x e = ⊎-elim (λ p. inl (e ∙ p))
+              (strays x e (all-at (λ plan. (plan .s ≡ rowAt l i .s) ⊎ (plan .s ≡ rowAt l i .o)) offPlan (plans (tripleAt l i)) (staying .gives (tripleAt l i)) k q))
+              (t .tells h)
+
+    pub row-end : {m : Lanes} {changed other : Bool} {n₁ k : ℕ} → Drew R kind (OfRow (tripleAt l i) other) (Passed (PlanPassed plans kind l i) 0 k l n) l n m false changed n₁
+        → length (plans (tripleAt l i)) ≤ k → RowDrawn R plans kind l n i m false changed other n₁
     row-end s h = drew-so s (λ _ _ p. all-from (λ plan. Obeyed (algebra kind) (graphOf (rowsOf l n)) plan (rowAt l i .a)) offPlan (plans (tripleAt l i))
         (λ j q. p .passed j (omega arith)))
 
-  -- every row, one after another
-  pub round-start : {l : Lanes} {n : ℕ} → Sound kind l n → Drew R kind (Passed (RowObeyed plans kind) 0 0 l n) l n l false false n
-  round-start sound = drew-none sound (record { reached = omega arith; passed = λ k h. absurd (omega arith) })
+    -- what rose is put into the sets
+    pub row-asked : {m : Lanes} {full changed other : Bool} {n′ : ℕ} {due due′ rose rose′ : List ℕ} → RowDrawn R plans kind l n i m full changed other n′
+        → Marked changed other (rowAt l i .s) (rowAt l i .o) due due′ rose rose′ → RowAsked R plans kind l n i m full changed n′ due due′ rose rose′
+    row-asked {m} {full} {changed} {other} {n′} {due} {due′} {rose} {rose′} d k = record {
+      drew = drew-among d rises;
+      due-more = k .due-more;
+      rose-more = k .rose-more;
+      again = k .self;
+    }
+      where
+        rises : changed ≡ true → (x : ℕ) → OfRow (tripleAt l i) other x → holds rose′ x ≡ true
+        rises h x (inl e) = rw e (k .self h)
+        rises h x (inr w) = rw (w .1) (k .beside h (w .0))
 
-  pub round-end : {l : Lanes} {n : ℕ} {m : Lanes} {changed : Bool} {n₁ k : ℕ} → Drew R kind (Passed (RowObeyed plans kind) 0 k l n) l n m false changed n₁
-      → n₁ ≤ k → RoundDrawn R plans kind l n m false changed n₁
-  round-end s h = drew-so s (λ _ en p i q. p .passed i (omega (arith, en)))
+  -- every row that is due, one after another
+  pub round-start : {l : Lanes} {n : ℕ} {due rose : List ℕ} → RoundDue plans kind l n due → Sets due rose → SoFar R plans kind due l n l false n due rose 0
+  round-start {l} {n} {due} {rose} d sets = record {
+    drew = drew-none (d .sound) (record { reached = omega arith; passed = λ k h. absurd (omega arith) });
+    due-more = among-self due;
+    sets = sets;
+    settled = λ j h q w. d .settled j h (w (omega arith));
+  }
+
+  -- rows that are not due are left alone
+  pub round-skip : {due₀ : List ℕ} {l : Lanes} {n : ℕ} {m : Lanes} {c : Bool} {n₁ : ℕ} {due rose : List ℕ} {i at : ℕ} → SoFar R plans kind due₀ l n m c n₁ due rose i
+      → NextDue (m .subj) (m .pred) (m .obj) i due at → SoFar R plans kind due₀ l n m c n₁ due rose at
+  round-skip {due₀} {l} {n} {m} {c} {n₁} {due} {rose} {i} {at} s next = record {
+    drew = drew-so (s .drew) (λ em en p. record { reached = omega arith; passed = λ k q. passes em p k q (tri k i) });
+    due-more = s .due-more;
+    sets = s .sets;
+    settled = λ j h quiet w. s .settled j h quiet (λ from. left j from (tri j at) w);
+  }
+    where
+      passes : m ≡ l → Passed (λ l n k. Still due₀ (tripleAt l k) ⊎ RowObeyed plans kind l n k) 0 i l n → (k : ℕ) → k < at → Tri k i
+          → Still due₀ (tripleAt l k) ⊎ RowObeyed plans kind l n k
+      passes em p k q (less z) = p .passed k z
+      passes em p k q (same z) = inl (still-before (s .due-more) (subst (λ (x : Lanes). Still due (tripleAt x k)) em (next .none k (omega arith) q)))
+      passes em p k q (more z) = inl (still-before (s .due-more) (subst (λ (x : Lanes). Still due (tripleAt x k)) em (next .none k (omega arith) q)))
+
+      left : (j : ℕ) → i ≤ j → Tri j at → (at ≤ j → Still due (tripleAt m j)) → Still due (tripleAt m j)
+      left j from (less z) w = next .none j from z
+      left j from (same z) w = w (omega arith)
+      left j from (more z) w = w (omega arith)
+
+  module _ (staying : Staying plans) {due₀ : List ℕ} {l : Lanes} {n : ℕ} {m : Lanes} {c : Bool} {n₁ : ℕ} {due rose : List ℕ} {i : ℕ}
+      (s : SoFar R plans kind due₀ l n m c n₁ due rose i) {m₂ : Lanes} {f₂ c₂ : Bool} {n₂ : ℕ} {due₂ rose₂ : List ℕ} {c₃ : Bool} where
+    round-drew : RowAsked R plans kind m n₁ i m₂ f₂ c₂ n₂ due due₂ rose rose₂ → Either c c₂ c₃
+        → Drew R kind (λ x. Unit {0}) (Passed (λ l n k. Still due₀ (tripleAt l k) ⊎ RowObeyed plans kind l n k) 0 (i + 1) l n) l n m₂ f₂ c₃ n₂
+    round-drew a e = turn (s .drew) (drew-so (drew-among (a .drew) (λ _ x _. tt)) (λ _ _ o. inr o)) e
+
+    pub round-turn : i < n₁ → RowAsked R plans kind m n₁ i m₂ f₂ c₂ n₂ due due₂ rose rose₂ → f₂ ≡ false → Either c c₂ c₃
+        → SoFar R plans kind due₀ l n m₂ c₃ n₂ due₂ rose₂ (i + 1)
+    round-turn h a f e = record {
+      drew = goes-on (round-drew a e) f;
+      due-more = among-trans (s .due-more) (a .due-more);
+      sets = record { due-long = a .due-more .long ∙ s .sets .due-long; rose-long = a .rose-more .long ∙ s .sets .rose-long };
+      settled = settled-on staying h (s .drew .risen .sound) a f (s .settled);
+    }
+
+    pub round-full : RowAsked R plans kind m n₁ i m₂ f₂ c₂ n₂ due due₂ rose rose₂ → f₂ ≡ true → Either c c₂ c₃ → RoundDrawn R plans kind l n m₂ true c₃ n₂ rose₂
+    round-full a f e = record {
+      drew = drew-full (round-drew a e) f;
+      long = a .rose-more .long ∙ s .sets .rose-long;
+      settled = λ z. absurd (true≢false z);
+    }
+
+  pub round-end : {due₀ : List ℕ} {l : Lanes} {n : ℕ} {m : Lanes} {c : Bool} {n₁ : ℕ} {due rose : List ℕ} {i : ℕ} → RoundDue plans kind l n due₀
+      → SoFar R plans kind due₀ l n m c n₁ due rose i → n₁ ≤ i → RoundDrawn R plans kind l n m false c n₁ rose
+  round-end d s h = record {
+    drew = drew-so (s .drew) (λ _ en p j q. ⊎-elim (d .settled j q) (λ o. o) (p .passed j (omega (arith, en))));
+    long = s .sets .rose-long;
+    settled = λ _ j q quiet. s .settled j q quiet (λ w. absurd (omega arith));
+  }
 
   -- a table whose rows obey their plans is closed
   rows-closed : (l : Lanes) (n : ℕ) → Sound kind l n → ((i : ℕ) → i < n → RowObeyed plans kind l n i) → Closed (algebra kind) R (graphOf (rowsOf l n))
@@ -85,27 +216,48 @@ module _ {R : Rules} {plans : Triple → List Plan} (driven : Driven R plans) {k
           (subst (λ (u : Triple). All (λ plan. Obeyed (algebra kind) (graphOf (rowsOf l n)) plan (rowAt l (h .at) .a)) (plans u))
           (λ j. triple (e .same-s j) (e .same-p j) (e .same-o j)) (all (h .at) (h .within)))
 
-  -- round after round
-  module _ {l : Lanes} {n : ℕ} {m : Lanes} {c : Bool} {n₁ : ℕ} (a : Risen R kind l n m false c n₁)
-      {m₂ : Lanes} {full changed : Bool} {n₂ : ℕ} (r : RoundDrawn R plans kind m n₁ m₂ full changed n₂) where
-    round-more : (c₃ : Bool) × Risen R kind l n m₂ full c₃ n₂
-    round-more = let e = some-either c changed in (e .0, risen-then a (r .risen) (e .1))
+  -- ---- round after round
 
-    pub rounds-go-on : full ≡ false → (c₃ : Bool) × Risen R kind l n m₂ false c₃ n₂
-    rounds-go-on f = rw (← f) round-more
+  -- at first every row is due
+  pub rounds-start : {l : Lanes} {n : ℕ} {rose : List ℕ} → Sound kind l n → length rose ≡ words → Rounded R plans kind l n l n (replicate 1024 18446744073709551615) rose
+  rounds-start {l} {n} {rose} sound long = record {
+    changed = false;
+    risen = risen-none sound;
+    rows = record {
+      sound = sound;
+      settled = λ j h still. absurd (true≢false (sym (holds-all (rowAt l j .s) (legal-small (sound .legal j h) .small-s)) ∙ still .self));
+    };
+    sets = record { due-long = length-replicate {A = ℕ} 1024 18446744073709551615; rose-long = long };
+  }
+
+  module _ {l : Lanes} {n : ℕ} {m : Lanes} {n₁ : ℕ} {due rose₀ : List ℕ} (a : Rounded R plans kind l n m n₁ due rose₀)
+      {m₂ : Lanes} {full changed : Bool} {n₂ : ℕ} {rose : List ℕ} (r : RoundDrawn R plans kind m n₁ m₂ full changed n₂ rose) where
+    round-more : (c₃ : Bool) × Risen R kind l n m₂ full c₃ n₂
+    round-more = let e = some-either (a .changed) changed in (e .0, risen-then (a .risen) (r .drew .risen) (e .1))
+
+    -- the set is spread, and what rose is due in the next round
+    pub rounds-go-on : full ≡ false → {rose′ empty : List ℕ} → Spread (m₂ .subj) (m₂ .pred) (m₂ .obj) n₂ rose rose′ → length empty ≡ words
+        → Rounded R plans kind l n m₂ n₂ rose′ empty
+    rounds-go-on f s long = record {
+      changed = round-more .0;
+      risen = rw (← f) (round-more .1);
+      rows = record { sound = r .drew .risen .sound; settled = λ j h still. r .settled f j h (spread-quiet m₂ s (tripleAt m₂ j) still) };
+      sets = record { due-long = s .more .long ∙ r .long; rose-long = long };
+    }
 
     pub saturated-full : full ≡ true → Saturated R kind l n m₂ true n₂
     saturated-full f = record { changed = round-more .0; risen = rw (← f) (round-more .1); closed = λ z. absurd (true≢false z) }
 
     pub saturated-done : full ≡ false → changed ≡ false → Saturated R kind l n m₂ false n₂
-    saturated-done f z = let w = r .risen .still z in record {
+    saturated-done f z = let w = r .drew .risen .still z in record {
       changed = round-more .0;
       risen = rw (← f) (round-more .1);
-      closed = λ y. subst₂ (λ (x : Lanes) (k : ℕ). Closed (algebra kind) R (graphOf (rowsOf x k))) (sym (w .0)) (sym (w .1)) (rows-closed m n₁ (a .sound) (r .inside f z));
+      closed = λ y. subst₂ (λ (x : Lanes) (k : ℕ). Closed (algebra kind) R (graphOf (rowsOf x k))) (sym (w .0)) (sym (w .1))
+          (rows-closed m n₁ (a .rows .sound) (r .drew .inside f z));
     }
 
     -- the sum of annotations rises, and cannot pass its bound
     pub less-left : changed ≡ true → mostTotal - total (rowsOf m₂ n₂) < mostTotal - total (rowsOf m n₁)
     less-left t =
-        let s = sound-list (r .risen .sound) in
-        omega (arith, r .risen .grows t, total-bound kind (rowsOf m₂ n₂) (s .legal) (s .ascending))
+        let s = sound-list (r .drew .risen .sound) in
+        omega (arith, r .drew .risen .grows t, total-bound kind (rowsOf m₂ n₂) (s .legal) (s .ascending))

@@ -1,8 +1,9 @@
 -- Scaffolding, cited by inner contracts alone: what a row, a round, and rounds until one changes nothing promise.
 use mathlib.Core.Path.{_≡_}
-use mathlib.Core.Bool.{Bool, false}
+use mathlib.Core.Bool.{Bool, true, false}
 use mathlib.Core.List.{List}
 use Prim.Native.Nat.{ℕ, _<_}
+use lib.ListN.{length}
 use Rattle.ground.specs.Lists.{All}
 use Rattle.annotation.specs.Kinds.{algebra}
 use Rattle.table.specs.Rows.{Triple, triple, Lanes, rowAt, rowsOf}
@@ -12,7 +13,9 @@ use Rattle.rhodf.specs.Rules.{Rules}
 use Rattle.rhodf.specs.Closure.{Closed}
 use Rattle.plans.specs.declared.Plan.{Plan}
 use Rattle.plans.specs.Plans.{Obeyed}
+use Rattle.termset.specs.Termset.{words, holds, Among}
 use Rattle.walks.specs.Rising.{Risen, Drew}
+use Rattle.rounds.specs.Due.{Still, Quiet, OfRow}
 
 -- row i obeys its plans in the table's graph
 abbrev pub tripleAt : Lanes → ℕ → Triple
@@ -25,12 +28,27 @@ pub record RowOfTable (kind : ℕ) (l : Lanes) (n i : ℕ) : Type 0 where
   pub sound : Sound kind l n
   pub there : i < n
 
-abbrev pub RowDrawn : Rules → (Triple → List Plan) → ℕ → Lanes → ℕ → ℕ → Lanes → Bool → Bool → ℕ → Type 0
-RowDrawn R plans kind l n i m full changed n′ = Drew R kind (RowObeyed plans kind l n i) l n m full changed n′
+abbrev pub RowDrawn : Rules → (Triple → List Plan) → ℕ → Lanes → ℕ → ℕ → Lanes → Bool → Bool → Bool → ℕ → Type 0
+RowDrawn R plans kind l n i m full changed other n′ = Drew R kind (OfRow (tripleAt l i) other) (RowObeyed plans kind l n i) l n m full changed n′
 
--- every row obeys its plans
-abbrev pub RoundDrawn : Rules → (Triple → List Plan) → ℕ → Lanes → ℕ → Lanes → Bool → Bool → ℕ → Type 0
-RoundDrawn R plans kind l n m full changed n′ = Drew R kind ((i : ℕ) → i < n → RowObeyed plans kind l n i) l n m full changed n′
+-- a row is asked; what rose is in the set `rose`, and the row itself too where it changed anything
+pub record RowAsked (R : Rules) (plans : Triple → List Plan) (kind : ℕ) (l : Lanes) (n i : ℕ) (m : Lanes) (full changed : Bool) (n′ : ℕ)
+    (due due′ rose rose′ : List ℕ) : Type 0 where
+  pub drew : Drew R kind (λ x. holds rose′ x ≡ true) (RowObeyed plans kind l n i) l n m full changed n′
+  pub due-more : Among due due′
+  pub rose-more : Among rose rose′
+  pub again : changed ≡ true → holds rose′ (rowAt l i .s) ≡ true
+
+-- a row that is not due obeys its plans
+pub record RoundDue (plans : Triple → List Plan) (kind : ℕ) (l : Lanes) (n : ℕ) (due : List ℕ) : Type 0 where
+  pub sound : Sound kind l n
+  pub settled : (j : ℕ) → j < n → Still due (tripleAt l j) → RowObeyed plans kind l n j
+
+-- where nothing changed, every row obeys its plans; and in any case every row that meets nothing that rose in this round
+pub record RoundDrawn (R : Rules) (plans : Triple → List Plan) (kind : ℕ) (l : Lanes) (n : ℕ) (m : Lanes) (full changed : Bool) (n′ : ℕ) (rose : List ℕ) : Type 0 where
+  pub drew : Drew R kind (λ x. Unit {0}) ((i : ℕ) → i < n → RowObeyed plans kind l n i) l n m full changed n′
+  pub long : length rose ≡ words
+  pub settled : full ≡ false → (j : ℕ) → j < n′ → Quiet rose (graphOf (rowsOf m n′)) (tripleAt m j) → RowObeyed plans kind m n′ j
 
 -- the last round changed nothing, or what follows does not fit
 pub record Saturated (R : Rules) (kind : ℕ) (l : Lanes) (n : ℕ) (m : Lanes) (full : Bool) (n′ : ℕ) : Type 0 where

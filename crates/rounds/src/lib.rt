@@ -1,15 +1,48 @@
-// Rounds: every rule at every row of a sound table, again and again until a round changes nothing.
+// Rounds: every rule at every row of a sound table that could give something new, again and again until a round changes nothing.
+// A row is asked again only if a row that it can meet has risen since. What rose is kept by subject, in two sets of terms
+// (8 KB each, on the stack): `rose` has what rose in this round, `due` what rose in the last one or so far in this.
 // Nothing is refused here; where a row finds no room, the caller is told (`full`).
+ghost use mathlib.Core.Path.{_≡_};
+ghost use lib.ListN.{length};
+ghost use Rattle.termset.specs.Termset.{words};
 ghost use Rattle.table.specs.Lent.{before, after, lent};
-ghost use Rattle.table.specs.Sound.{Sound};
+ghost use Rattle.table.specs.Rows.{triple};
 ghost use Rattle.rhodf.specs.Rules.{Rule};
 ghost use Rattle.plans.specs.Plans.{plansFor};
-ghost use Rattle.rounds.specs.Rounds.{RowOfTable, RowDrawn, RoundDrawn, Saturated};
+ghost use Rattle.rounds.specs.Due.{Sets, Strayed, MeetsNone, Marked, Leads, RowsOfThree, NextDue, Spread};
+ghost use Rattle.rounds.specs.Rounds.{RowOfTable, RowDrawn, RowAsked, RoundDue, RoundDrawn, Saturated};
+ghost use Rattle.table.specs.Sound.{Sound};
 use plans::RULES;
 use plans::plan_of;
 use table::PutDone;
+use term::DOM;
+use term::SP;
+use termset::is_in;
+use termset::put_if;
 use walks::either;
 use walks::pursue;
+
+// Whether a row of another subject than x has risen, where a plan of x's row gave rows of the subject s.
+fn strayed(other: bool, changed: bool, s: u16, x: u16) -> bool
+    ensures { λ r. ⌜ Strayed other changed s x r ⌝ }
+{
+    if !changed {
+        return other;
+    }
+    if s != x {
+        return true;
+    }
+    other
+}
+
+// As `PutDone`, and whether a row of another subject than the asked row's rose.
+struct RowDone {
+    full: bool,
+    changed: bool,
+    other: bool,
+    count: usize,
+    next: usize,
+}
 
 // Draws what row i gives by every rule.
 fn draw_row(
@@ -21,9 +54,9 @@ fn draw_row(
     count: usize,
     i: usize,
     hint: usize,
-) -> PutDone
+) -> RowDone
     requires { ⌜ RowOfTable kind (lent subj pred obj ann) count i ⌝ }
-    ensures { λ r. ⌜ RowDrawn Rule plansFor kind (before subj pred obj ann) count i (after subj pred obj ann) (r .full) (r .changed) (r .count) ⌝ }
+    ensures { λ r. ⌜ RowDrawn Rule plansFor kind (before subj pred obj ann) count i (after subj pred obj ann) (r .full) (r .changed) (r .other) (r .count) ⌝ }
 {
     let x = subj[i];
     let d = pred[i];
@@ -31,6 +64,7 @@ fn draw_row(
     let a = ann[i];
     let mut n = count;
     let mut changed = false;
+    let mut other = false;
     let mut near = hint;
     let mut rule: u8 = 0;
     while rule < RULES {
@@ -39,25 +73,109 @@ fn draw_row(
         n = done.count;
         near = done.next;
         changed = either(changed, done.changed);
+        other = strayed(other, done.changed, plan.s, x);
         if done.full {
-            return PutDone {
+            return RowDone {
                 full: true,
                 changed,
+                other,
                 count: n,
                 next: near,
             };
         }
         rule += 1;
     }
-    PutDone {
+    RowDone {
         full: false,
         changed,
+        other,
         count: n,
         next: near,
     }
 }
 
-// Draws what every row gives.
+// Whether the row (x d y) can meet a row whose subject is in the set: of its own subject, of its predicate or, where it is of
+// sp, sc or type, of its object.
+fn meets(set: &[u64; 1024], x: u16, d: u16, y: u16) -> bool
+    ensures { λ r. ⌜ MeetsNone (now (set .entry)) (triple x d y) r ⌝ }
+{
+    if is_in(set, x) {
+        return true;
+    }
+    if is_in(set, d) {
+        return true;
+    }
+    if d < DOM {
+        return is_in(set, y);
+    }
+    false
+}
+
+// Puts what rose by a row with the subject x and the object y into both sets.
+fn mark(due: &mut [u64; 1024], rose: &mut [u64; 1024], changed: bool, other: bool, x: u16, y: u16)
+    requires { ⌜ Sets (now due) (now rose) ⌝ }
+    ensures { λ _. ⌜ Marked changed other x y (now (due .entry)) (now (due .exit)) (now (rose .entry)) (now (rose .exit)) ⌝ }
+{
+    if !changed {
+        return;
+    }
+    put_if(due, changed, x);
+    put_if(due, other, y);
+    put_if(rose, changed, x);
+    put_if(rose, other, y);
+}
+
+// The first row from `from` on that is due, or the count.
+fn next_due(
+    subj: &[u16],
+    pred: &[u16],
+    obj: &[u16],
+    count: usize,
+    from: usize,
+    due: &[u64; 1024],
+) -> usize
+    requires { ⌜ RowsOfThree (now subj) (now pred) (now obj) count ⌝ }
+    ensures { λ r. ⌜ NextDue (now (subj .entry)) (now (pred .entry)) (now (obj .entry)) from (now (due .entry)) r ⌝ }
+{
+    let mut i = from;
+    while i < count {
+        if meets(due, subj[i], pred[i], obj[i]) {
+            return i;
+        }
+        i += 1;
+    }
+    i
+}
+
+// Draws what row i gives, and puts what rose into both sets.
+fn ask_row(
+    kind: u8,
+    subj: &mut [u16],
+    pred: &mut [u16],
+    obj: &mut [u16],
+    ann: &mut [u64],
+    count: usize,
+    i: usize,
+    hint: usize,
+    due: &mut [u64; 1024],
+    rose: &mut [u64; 1024],
+) -> PutDone
+    requires { ⌜ RowOfTable kind (lent subj pred obj ann) count i × Sets (now due) (now rose) ⌝ }
+    ensures { λ r. ⌜ RowAsked Rule plansFor kind (before subj pred obj ann) count i (after subj pred obj ann) (r .full) (r .changed) (r .count) (now (due .entry)) (now (due .exit)) (now (rose .entry)) (now (rose .exit)) ⌝ }
+{
+    let x = subj[i];
+    let y = obj[i];
+    let done = draw_row(kind, subj, pred, obj, ann, count, i, hint);
+    mark(due, rose, done.changed, done.other, x, y);
+    PutDone {
+        full: done.full,
+        changed: done.changed,
+        count: done.count,
+        next: done.next,
+    }
+}
+
+// Asks every row that is due.
 fn round(
     kind: u8,
     subj: &mut [u16],
@@ -65,16 +183,27 @@ fn round(
     obj: &mut [u16],
     ann: &mut [u64],
     count: usize,
+    due: &mut [u64; 1024],
+    rose: &mut [u64; 1024],
 ) -> PutDone
-    requires { ⌜ Sound kind (lent subj pred obj ann) count ⌝ }
-    ensures { λ r. ⌜ RoundDrawn Rule plansFor kind (before subj pred obj ann) count (after subj pred obj ann) (r .full) (r .changed) (r .count) ⌝ }
+    requires { ⌜ RoundDue plansFor kind (lent subj pred obj ann) count (now due) × Sets (now due) (now rose) ⌝ }
+    ensures { λ r. ⌜ RoundDrawn Rule plansFor kind (before subj pred obj ann) count (after subj pred obj ann) (r .full) (r .changed) (r .count) (now (rose .exit)) ⌝ }
 {
     let mut n = count;
     let mut changed = false;
     let mut near = 0;
     let mut i = 0;
-    while i < n {
-        let done = draw_row(kind, subj, pred, obj, ann, n, i, near);
+    loop {
+        let at = next_due(subj, pred, obj, n, i, due);
+        if n <= at {
+            return PutDone {
+                full: false,
+                changed,
+                count: n,
+                next: near,
+            };
+        }
+        let done = ask_row(kind, subj, pred, obj, ann, n, at, near, due, rose);
         n = done.count;
         near = done.next;
         changed = either(changed, done.changed);
@@ -86,13 +215,30 @@ fn round(
                 next: near,
             };
         }
-        i += 1;
+        i = at + 1;
     }
-    PutDone {
-        full: false,
-        changed,
-        count: n,
-        next: near,
+}
+
+// Whether a row with the predicate d and the object y is (D sp A), with A in the set.
+fn leads(set: &[u64; 1024], d: u16, y: u16) -> bool
+    ensures { λ r. ⌜ Leads (now (set .entry)) d y r ⌝ }
+{
+    if d == SP {
+        return is_in(set, y);
+    }
+    false
+}
+
+// Rule 5 looks behind the rows (D sp A): where A is in the set, D is put in.
+fn spread(subj: &[u16], pred: &[u16], obj: &[u16], count: usize, rose: &mut [u64; 1024])
+    requires { ⌜ RowsOfThree (now subj) (now pred) (now obj) count × (length (now rose) ≡ words) ⌝ }
+    ensures { λ _. ⌜ Spread (now (subj .entry)) (now (pred .entry)) (now (obj .entry)) count (now (rose .entry)) (now (rose .exit)) ⌝ }
+{
+    let mut i = 0;
+    while i < count {
+        let on = leads(rose, pred[i], obj[i]);
+        put_if(rose, on, subj[i]);
+        i += 1;
     }
 }
 
@@ -101,7 +247,7 @@ pub struct Reached {
     pub count: usize,
 }
 
-// Round after round, until one changes nothing or finds no room.
+// Round after round, until one changes nothing or finds no room. In the first, every row is due.
 pub fn saturate(
     kind: u8,
     subj: &mut [u16],
@@ -114,8 +260,10 @@ pub fn saturate(
     ensures { λ r. ⌜ Saturated Rule kind (before subj pred obj ann) count (after subj pred obj ann) (r .full) (r .count) ⌝ }
 {
     let mut n = count;
+    let mut due: [u64; 1024] = [18446744073709551615; 1024];
+    let mut rose: [u64; 1024] = [0; 1024];
     loop {
-        let last = round(kind, subj, pred, obj, ann, n);
+        let last = round(kind, subj, pred, obj, ann, n, &mut due, &mut rose);
         n = last.count;
         if last.full {
             return Reached {
@@ -129,5 +277,8 @@ pub fn saturate(
                 count: n,
             };
         }
+        spread(subj, pred, obj, n, &mut rose);
+        due = rose;
+        rose = [0; 1024];
     }
 }

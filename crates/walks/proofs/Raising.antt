@@ -5,19 +5,19 @@ use mathlib.Core.List.{List}
 use mathlib.Core.Logic.{_⊎_, inl, inr, ⊎-elim}
 use Prim.Native.Nat.{ℕ, _<_}
 use lib.ListN.{length}
-use borrow.Author.Tests.{ltb-true}
+use borrow.Author.Tests.{ltb-true, ne-eqb}
 use Rattle.term.specs.Term.{isName}
 use Rattle.annotation.specs.Algebra.{AtMost}
 use Rattle.annotation.specs.Kinds.{algebra}
 use Rattle.annotation.proofs.KindLaws.{laws}
 use Rattle.annotation.proofs.Legal.{value-legal}
 use Rattle.annotation.proofs.Order.{bottom-at-most}
-use Rattle.table.specs.Rows.{Row, Lanes, triple, addRow, rowsOf, valueAt}
+use Rattle.table.specs.Rows.{Triple, Row, Lanes, triple, addRow, rowsOf, valueAt}
 use Rattle.table.specs.Sound.{SoundRows}
 use Rattle.table.specs.Putting.{PutInto, Put}
 use Rattle.table.proofs.Soundness.{sound-list}
 use Rattle.table.proofs.Putting.{sound-add}
-use Rattle.table.proofs.Values.{tripleOf, legal-small, all-legal-small, value-add-same}
+use Rattle.table.proofs.Values.{tripleOf, legal-small, all-legal-small, value-add-same, value-add-other}
 use Rattle.rhodf.specs.Graph.{graphOf, Below}
 use Rattle.rhodf.specs.Rules.{Rules}
 use Rattle.rhodf.proofs.Graphs.{below-self}
@@ -59,6 +59,10 @@ module _ {R : Rules} {kind : ℕ} {r : Row} {l : Lanes} {n : ℕ} (c : Concluded
       after-above =
           below-added (algebra kind) (laws kind) r rows (legal-small (conclusion-put .legal)) (all-legal-small kind rows (sound-before .legal)) (sound-before .ascending)
 
+      added-elsewhere : (t : Triple) → (t .s ≡ r .s → ⊥) → valueAt after t ≡ valueAt rows t
+      added-elsewhere t other = value-add-other (algebra kind) r (legal-small (conclusion-put .legal)) rows (all-legal-small kind rows (sound-before .legal)) t
+          (rw (ne-eqb (r .s) (t .s) (λ e. other (sym e))) refl)
+
       rows-now : (rowsOf m n′ ≡ rows) ⊎ (rowsOf m n′ ≡ after)
       rows-now = ⊎-elim
           (λ t. let st = put .still (put .full-still t) in inl (rw (st .0, st .1) refl))
@@ -89,5 +93,6 @@ module _ {R : Rules} {kind : ℕ} {r : Row} {l : Lanes} {n : ℕ} (c : Concluded
             entailed = after-entailed;
           };
         };
+        kept = λ t other. ⊎-elim (λ e. rw e refl) (λ e. rw e (added-elsewhere t other)) rows-now;
         inside = λ f z drawn. put-inside f z;
       }

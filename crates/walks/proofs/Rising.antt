@@ -42,8 +42,8 @@ module _ {R : Rules} {kind : ℕ} where
     over = λ z. absurd (false≢true z);
   }
 
-  pub drew-none : {Q : Type 0} {l : Lanes} {n : ℕ} → Sound kind l n → Q → Drew R kind Q l n l false false n
-  drew-none sound q = record { risen = risen-none sound; inside = λ f z. q }
+  pub drew-none : {S : ℕ → Type 0} {Q : Type 0} {l : Lanes} {n : ℕ} → Sound kind l n → Q → Drew R kind S Q l n l false false n
+  drew-none sound q = record { risen = risen-none sound; kept = λ t h. refl; inside = λ f z. q }
 
   -- one rising after another
   risen-total : {l : Lanes} {n : ℕ} {m : Lanes} {full changed : Bool} {n′ : ℕ} → Risen R kind l n m full changed n′ → total (rowsOf l n) ≤ total (rowsOf m n′)
@@ -72,10 +72,11 @@ module _ {R : Rules} {kind : ℕ} where
     }
 
     -- a turn of a loop: P is what a turn shows of its index where nothing changes
-    pub turn : {P : Lanes → ℕ → ℕ → Type 0} {at i : ℕ} → Drew R kind (Passed P at i l n) l n m false c n₁ → Drew R kind (P m n₁ i) m n₁ m₂ f₂ c₂ n₂
-        → Either c c₂ c₃ → Drew R kind (Passed P at (i + 1) l n) l n m₂ f₂ c₃ n₂
-    turn {P} {at} {i} s t e = record {
+    pub turn : {S : ℕ → Type 0} {P : Lanes → ℕ → ℕ → Type 0} {at i : ℕ} → Drew R kind S (Passed P at i l n) l n m false c n₁
+        → Drew R kind S (P m n₁ i) m n₁ m₂ f₂ c₂ n₂ → Either c c₂ c₃ → Drew R kind S (Passed P at (i + 1) l n) l n m₂ f₂ c₃ n₂
+    turn {S} {P} {at} {i} s t e = record {
       risen = risen-then (s .risen) (t .risen) e;
+      kept = λ u h. t .kept u h ∙ s .kept u h;
       inside = λ f z.
           let q = e .neither z in
           let w = s .risen .still (q .0) in
@@ -86,15 +87,25 @@ module _ {R : Rules} {kind : ℕ} where
           };
     }
 
-  module _ {Q : Type 0} {l : Lanes} {n : ℕ} {m : Lanes} {f c : Bool} {n′ : ℕ} (s : Drew R kind Q l n m f c n′) where
+  module _ {S : ℕ → Type 0} {Q : Type 0} {l : Lanes} {n : ℕ} {m : Lanes} {f c : Bool} {n′ : ℕ} (s : Drew R kind S Q l n m f c n′) where
     -- it goes on where there was room
-    pub goes-on : f ≡ false → Drew R kind Q l n m false c n′
+    pub goes-on : f ≡ false → Drew R kind S Q l n m false c n′
     goes-on e = rw (← e) s
 
-    -- with no room left nothing is claimed
-    pub drew-full : {Q′ : Type 0} → f ≡ true → Drew R kind Q′ l n m true c n′
-    drew-full e = record { risen = rw (← e) (s .risen); inside = λ z. absurd (true≢false z) }
+    -- with no room left nothing is claimed of the plans
+    pub drew-full : {Q′ : Type 0} → f ≡ true → Drew R kind S Q′ l n m true c n′
+    drew-full e = record { risen = rw (← e) (s .risen); kept = s .kept; inside = λ z. absurd (true≢false z) }
 
     -- where nothing changed, the table at the end is the one at the beginning
-    pub drew-so : {Q′ : Type 0} → (m ≡ l → n′ ≡ n → Q → Q′) → Drew R kind Q′ l n m f c n′
-    drew-so h = record { risen = s .risen; inside = λ e z. let w = s .risen .still z in h (w .0) (w .1) (s .inside e z) }
+    pub drew-so : {Q′ : Type 0} → (m ≡ l → n′ ≡ n → Q → Q′) → Drew R kind S Q′ l n m f c n′
+    drew-so h = record { risen = s .risen; kept = s .kept; inside = λ e z. let w = s .risen .still z in h (w .0) (w .1) (s .inside e z) }
+
+    -- the subjects that rose are among others, if any did
+    pub drew-among : {S′ : ℕ → Type 0} → (c ≡ true → (x : ℕ) → S x → S′ x) → Drew R kind S′ Q l n m f c n′
+    drew-among {S′} h = record {
+      risen = s .risen;
+      kept = λ t no. ⊎-elim
+          (λ e. s .kept t (λ i. no (h e (t .s) i)))
+          (λ e. let w = s .risen .still e in rw (w .0, w .1) refl) (which c);
+      inside = s .inside;
+    }

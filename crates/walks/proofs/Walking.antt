@@ -19,7 +19,7 @@ use Rattle.plans.specs.declared.Plan.{Plan}
 use Rattle.plans.specs.Plans.{shapeOff, shapeStraight, shapeRenaming, straightIf, Met, Obeyed}
 use Rattle.plans.proofs.Meeting.{met-lower, met-bottom}
 use Rattle.walks.specs.Rising.{Above, Risen, Drew}
-use Rattle.walks.specs.Walks.{Concluded, Raised, Once, Gives, Beyond, Planned, Walked, Begins, Meeting, RowMet, MeetingDrawn}
+use Rattle.walks.specs.Walks.{Concluded, OfOne, Raised, Once, Gives, Beyond, Planned, Walked, Begins, Meeting, RowMet, MeetingDrawn}
 use Rattle.walks.proofs.Rising.{drew-none, Passed, drew-so}
 use Rattle.walks.proofs.Neighbours.{row-value, row-below, none-before, all-partners}
 
@@ -139,7 +139,7 @@ module _ {R : Rules} {kind : ℕ} {S : ℕ → Type 0} {plan : Plan} {a : ℕ} {
 -- the walk along the rows that the plan meets
 module _ {R : Rules} {kind : ℕ} {S : ℕ → Type 0} {plan : Plan} {a : ℕ} {l : Lanes} {n : ℕ} (c : Planned R kind S plan a l n) (small : plan .r < 65536)
     {at : ℕ} (pl : Placed (l .subj) (l .pred) (l .obj) n (keyOf (plan .q) (plan .r) 0) at) where
-  pub walk-start : Drew R kind (Passed (RowMet kind plan a) at at l n) l n l false false n
+  pub walk-start : Drew R kind (OfOne (plan .s)) (Passed (RowMet kind plan a) at at l n) l n l false false n
   walk-start = drew-none (c .sound) (record {
     reached = omega arith;
     passed = λ k h es ep. absurd (none-before kind l n (c .sound) (plan .q) (plan .r) at small pl k h es ep);
@@ -160,7 +160,7 @@ module _ {R : Rules} {kind : ℕ} {S : ℕ → Type 0} {plan : Plan} {a : ℕ} {
           (met-bottom (algebra kind) (laws kind) G (rows-valued kind (rowsOf l n) (sound-list (c .sound))) plan z)
       go z (more h) = absurd (omega arith)
 
-  pub walk-end : {m : Lanes} {changed : Bool} {n₁ i : ℕ} {b : Bool} → Drew R kind (Passed (RowMet kind plan a) at i l n) l n m false changed n₁
+  pub walk-end : {m : Lanes} {changed : Bool} {n₁ i : ℕ} {b : Bool} → Drew R kind (OfOne (plan .s)) (Passed (RowMet kind plan a) at i l n) l n m false changed n₁
       → Begins (m .subj) (m .pred) n₁ i (plan .q) (plan .r) b → b ≡ false → Walked R kind plan a l n m false changed n₁
   walk-end {m} {changed} {n₁} {i} s e f = drew-so s (λ em en p.
       all-met i p (subst₂ (λ (x : Lanes) (k : ℕ). i < k → rowAt x i .s ≡ plan .q → rowAt x i .p ≡ plan .r → ⊥) em en (e .missing f)))

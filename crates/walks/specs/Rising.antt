@@ -6,7 +6,7 @@ use mathlib.Core.Logic.{_⊎_}
 use Prim.Native.Nat.{ℕ, _≤_, _<_}
 use lib.ListN.{length}
 use Rattle.annotation.specs.Kinds.{algebra}
-use Rattle.table.specs.Rows.{Row, Lanes, AsLong, rowsOf, total}
+use Rattle.table.specs.Rows.{Triple, Row, Lanes, AsLong, rowsOf, total}
 use Rattle.table.specs.Sound.{Sound, SoundRows}
 use Rattle.rhodf.specs.Graph.{Graph, graphOf, Valued, Below}
 use Rattle.rhodf.specs.Rules.{Rules}
@@ -38,9 +38,10 @@ pub record Risen (R : Rules) (kind : ℕ) (l : Lanes) (n : ℕ) (m : Lanes) (ful
   pub grows : changed ≡ true → total (rowsOf l n) < total (rowsOf m n′)
   pub over : full ≡ true → Overflow R kind (length (l .subj)) (rowsOf l n)
 
--- the table has risen, and where nothing changed it is as Q says: what every level of a round promises
-pub record Drew (R : Rules) (kind : ℕ) (Q : Type 0) (l : Lanes) (n : ℕ) (m : Lanes) (full changed : Bool) (n′ : ℕ) : Type 0 where
+-- the table has risen, of no other subjects than those of S, and where nothing changed it is as Q says: what every level of a round promises
+pub record Drew (R : Rules) (kind : ℕ) (S : ℕ → Type 0) (Q : Type 0) (l : Lanes) (n : ℕ) (m : Lanes) (full changed : Bool) (n′ : ℕ) : Type 0 where
   pub risen : Risen R kind l n m full changed n′
+  pub kept : (t : Triple) → (S (t .s) → ⊥) → graphOf (rowsOf m n′) t ≡ graphOf (rowsOf l n) t
   pub inside : full ≡ false → changed ≡ false → Q
 
 -- c is a or b

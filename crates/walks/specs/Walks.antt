@@ -24,10 +24,14 @@ pub record Concluded (R : Rules) (kind : ℕ) (r : Row) (l : Lanes) (n : ℕ) : 
   pub follows : Drawn (triple (r .s) (r .p) (r .o)) → (H : Graph) → Above R kind (rowsOf l n) H
       → AtMost (algebra kind) (r .a) (H (triple (r .s) (r .p) (r .o)))
 
+-- one subject alone
+abbrev pub OfOne : ℕ → ℕ → Type 0
+OfOne s x = x ≡ s
+
 -- it is at most its value
 abbrev pub Raised : Rules → ℕ → Row → Lanes → ℕ → Lanes → Bool → Bool → ℕ → Type 0
 Raised R kind r l n m full changed n′ =
-    Drew R kind (Drawn (triple (r .s) (r .p) (r .o)) → AtMost (algebra kind) (r .a) (graphOf (rowsOf l n) (triple (r .s) (r .p) (r .o)))) l n m full changed n′
+    Drew R kind (OfOne (r .s)) (Drawn (triple (r .s) (r .p) (r .o)) → AtMost (algebra kind) (r .a) (graphOf (rowsOf l n) (triple (r .s) (r .p) (r .o)))) l n m full changed n′
 
 -- the shapes that carry a plan out, give by each row that it meets, and look behind it
 abbrev pub Known : ℕ → Type 0
@@ -54,7 +58,7 @@ pub record Planned (R : Rules) (kind : ℕ) (S : ℕ → Type 0) (plan : Plan) (
 
 -- it is carried out
 abbrev pub Walked : Rules → ℕ → Plan → ℕ → Lanes → ℕ → Lanes → Bool → Bool → ℕ → Type 0
-Walked R kind plan a l n m full changed n′ = Drew R kind (Obeyed (algebra kind) (graphOf (rowsOf l n)) plan a) l n m full changed n′
+Walked R kind plan a l n m full changed n′ = Drew R kind (OfOne (plan .s)) (Obeyed (algebra kind) (graphOf (rowsOf l n)) plan a) l n m full changed n′
 
 -- n rows are within the two lanes
 pub record WithinTwo (subj pred : List ℕ) (n : ℕ) : Type 0 where
@@ -80,4 +84,4 @@ RowMet kind plan a l n k =
     → Met (algebra kind) (graphOf (rowsOf l n)) plan (rowAt l k .o) (algebra kind .meet a (rowAt l k .a))
 
 abbrev pub MeetingDrawn : Rules → ℕ → Plan → ℕ → Lanes → ℕ → ℕ → Lanes → Bool → Bool → ℕ → Type 0
-MeetingDrawn R kind plan a l n i m full changed n′ = Drew R kind (RowMet kind plan a l n i) l n m full changed n′
+MeetingDrawn R kind plan a l n i m full changed n′ = Drew R kind (OfOne (plan .s)) (RowMet kind plan a l n i) l n m full changed n′

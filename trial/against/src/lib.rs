@@ -16,6 +16,7 @@ pub mod questions;
 pub mod records;
 pub mod running;
 pub mod runs;
+pub mod slow;
 pub mod stored;
 pub mod stored_questions;
 pub mod tables;

@@ -1,7 +1,7 @@
 //! Closing, the exported call and the closing program against the model, and the document's
 //! examples through the program.
 
-use against::{closings, process, run, stored};
+use against::{closings, process, run, slow, stored};
 use std::path::PathBuf;
 use trial::random::Random;
 use trial::table::Lanes;
@@ -13,6 +13,25 @@ fn program() -> PathBuf {
 #[test]
 fn close_agrees_on_random_tables() {
     run("close", closings::close, 0..3_000);
+}
+
+/// Books whose conclusions come one after another, into rooms at the closure and a row under it.
+#[test]
+fn close_agrees_on_books_made_to_be_slow() {
+    for order in slow::ORDERS {
+        for size in [64, 150] {
+            for (name, kind, rows) in slow::books(order, size) {
+                let closed = against::baseline::close(kind, &rows).0.len();
+                for room in [closed, closed - 1, closed + 3] {
+                    let mut lanes = Lanes::zero(room);
+                    trial::table::fill(&mut lanes, &rows);
+                    if let Err(difference) = closings::close_one(kind, &lanes, rows.len()) {
+                        panic!("{name} {order}, {size}, room {room}: {difference}");
+                    }
+                }
+            }
+        }
+    }
 }
 
 #[test]

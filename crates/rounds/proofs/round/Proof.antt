@@ -1,76 +1,128 @@
 -- The invariant: what a round promises, of the rows passed.
+use mathlib.Core.Path.{_∙_}
 use Prim.Native.Nat.{_-_}
-use mathlib.Core.Bool.{false}
 use native.Mathlib.Omega.{arith}
 use lib.ListN.{length}
 use Rattle.table.specs.Rows.{lanes}
 use Rattle.rhodf.specs.Rules.{Rule}
 use Rattle.plans.specs.Plans.{plansFor}
 use Rattle.plans.proofs.Obeying.{rhodf-driven}
-use Rattle.walks.specs.Rising.{Drew}
-use Rattle.rounds.specs.Rounds.{RowObeyed}
-use Rattle.walks.proofs.Rising.{Passed, turn, goes-on, drew-full}
-use Rattle.rounds.proofs.Rounding.{round-start, round-end}
+use Rattle.rounds.proofs.Staying.{rhodf-staying}
+use Rattle.rounds.proofs.Rounding.{SoFar, rows-of-three, round-start, round-skip, round-turn, round-full, round-end}
 use borrow.Author.Needs.{needs}
 use Rattle.rounds.proofs.round.Statement.{statement}
 use Rattle.rounds.proofs.round.Tie as tie
 
 abbrev Inv-loop : tie.InvT-loop
-Inv-loop kind subj₀ pred₀ obj₀ ann₀ count n₀ changed₀ near₀ i₀ subj pred obj ann n changed near i =
-    Drew Rule kind (Passed (RowObeyed plansFor kind) 0 i (lanes subj₀ pred₀ obj₀ ann₀) count) (lanes subj₀ pred₀ obj₀ ann₀) count (lanes subj pred obj ann) false changed n
+Inv-loop kind subj₀ pred₀ obj₀ ann₀ count due₀ rose₀ n₀ changed₀ near₀ i₀ subj pred obj ann due rose n changed near i =
+    SoFar Rule plansFor kind due₀ (lanes subj₀ pred₀ obj₀ ann₀) count (lanes subj pred obj ann) changed n due rose i
 
 abbrev μ-loop : tie.MeasureT-loop
-μ-loop kind subj₀ pred₀ obj₀ ann₀ count n₀ changed₀ near₀ i₀ subj pred obj ann n changed near i =
+μ-loop kind subj₀ pred₀ obj₀ ann₀ count due₀ rose₀ n₀ changed₀ near₀ i₀ subj pred obj ann due rose n changed near i =
     length subj₀ - i
 
 loop-holds : tie.Need-loop-holds Inv-loop μ-loop
 loop-holds c =
     let the-pre = c .before .before .before .before .pre in
-    round-start rhodf-driven the-pre
+    round-start rhodf-driven (the-pre .0) (the-pre .1)
 
-draw-row-requires : tie.Need-draw-row-requires Inv-loop μ-loop
-draw-row-requires c κs =
-    let the-loop = c .before .before .before .before .before .loop in
-    let the-loop-test = c .before .before .before .before .loop-test in
-    record { sound = the-loop .inv .risen .sound; there = omega (arith, the-loop-test .taken) }
+next-due-requires : tie.Need-next-due-requires Inv-loop μ-loop
+next-due-requires c κs =
+    let the-loop = c .before .before .before .before .loop in
+    rows-of-three (the-loop .inv .drew .risen .sound)
+
+same-length : tie.Need-same-length Inv-loop μ-loop
+same-length c =
+    let the-loop = c .before .before .before .before .before .before .loop in
+    the-loop .inv .drew .risen .as-long .same-subj
+
+same-length-2 : tie.Need-same-length-2 Inv-loop μ-loop
+same-length-2 c =
+    let the-loop = c .before .before .before .before .before .before .loop in
+    the-loop .inv .drew .risen .as-long .same-pred
+
+same-length-3 : tie.Need-same-length-3 Inv-loop μ-loop
+same-length-3 c =
+    let the-loop = c .before .before .before .before .before .before .loop in
+    the-loop .inv .drew .risen .as-long .same-obj
+
+same-length-4 : tie.Need-same-length-4 Inv-loop μ-loop
+same-length-4 c =
+    let the-loop = c .before .before .before .before .before .before .loop in
+    the-loop .inv .drew .risen .as-long .same-ann
 
 returns : tie.Need-returns Inv-loop μ-loop
 returns c =
-    let the-loop = c .before .before .before .before .before .before .before .before .before .before .before .before .before .before .before .before .loop in
-    let the-draw-row = c .before .before .before .before .before .before .before .before .before .before .draw-row in
-    let the-either = c .before .either in
+    let the-pre = c .before .before .before .before .before .before .before .before .before .before .before .pre in
+    let the-loop = c .before .before .before .before .before .before .loop in
+    let the-next-due = c .before .next-due in
     let the-if1 = c .if1 in
-    drew-full (turn (the-loop .inv) (the-draw-row .ensures) (the-either .ensures)) (the-if1 .taken)
+    round-end rhodf-driven (the-pre .0) (round-skip rhodf-driven (the-loop .inv) (the-next-due .ensures)) (the-if1 .taken)
 
-add-i : tie.Need-add-i Inv-loop μ-loop
-add-i c =
-    let the-loop-test = c .before .before .before .before .before .before .before .before .before .before .before .before .before .before .before .loop-test in
-    let the-loop = c .before .before .before .before .before .before .before .before .before .before .before .before .before .before .before .before .loop in
-    omega (arith, the-loop-test .taken, the-loop .inv .risen .sound .within, the-loop .inv .risen .sound .long)
+ask-row-requires : tie.Need-ask-row-requires Inv-loop μ-loop
+ask-row-requires c κs =
+    let the-loop = c .before .before .before .before .before .before .before .before .before .before .before .before .loop in
+    let the-if1 = c .before .before .before .before .before .before .if1 in
+    (record { sound = the-loop .inv .drew .risen .sound; there = omega (arith, the-if1 .left) }, the-loop .inv .sets)
 
-loop-less : tie.Need-loop-less Inv-loop μ-loop
-loop-less c =
-    let the-loop-test = c .before .before .before .before .before .before .before .before .before .before .before .before .before .before .before .loop-test in
-    let the-loop = c .before .before .before .before .before .before .before .before .before .before .before .before .before .before .before .before .loop in
-    omega (arith, the-loop-test .taken, the-loop .inv .risen .sound .within, the-loop .inv .risen .as-long .same-subj)
+same-length-5 : tie.Need-same-length-5 Inv-loop μ-loop
+same-length-5 c =
+    let the-ask-row = c .before .before .before .before .before .before .before .before .before .before .ask-row in
+    let the-loop = c .before .before .before .before .before .before .before .before .before .before .before .before .before .before .before .before .before .before .before .before .before .before .before .loop in
+    the-ask-row .ensures .drew .risen .as-long .same-subj ∙ the-loop .inv .drew .risen .as-long .same-subj
 
-loop-again : tie.Need-loop-again Inv-loop μ-loop
-loop-again c =
-    let the-loop = c .before .before .before .before .before .before .before .before .before .before .before .before .before .before .before .before .loop in
-    let the-draw-row = c .before .before .before .before .before .before .before .before .before .before .draw-row in
-    let the-either = c .before .either in
-    let the-if1 = c .if1 in
-    goes-on (turn (the-loop .inv) (the-draw-row .ensures) (the-either .ensures)) (the-if1 .left)
+same-length-6 : tie.Need-same-length-6 Inv-loop μ-loop
+same-length-6 c =
+    let the-ask-row = c .before .before .before .before .before .before .before .before .before .before .ask-row in
+    let the-loop = c .before .before .before .before .before .before .before .before .before .before .before .before .before .before .before .before .before .before .before .before .before .before .before .loop in
+    the-ask-row .ensures .drew .risen .as-long .same-pred ∙ the-loop .inv .drew .risen .as-long .same-pred
+
+same-length-7 : tie.Need-same-length-7 Inv-loop μ-loop
+same-length-7 c =
+    let the-ask-row = c .before .before .before .before .before .before .before .before .before .before .ask-row in
+    let the-loop = c .before .before .before .before .before .before .before .before .before .before .before .before .before .before .before .before .before .before .before .before .before .before .before .loop in
+    the-ask-row .ensures .drew .risen .as-long .same-obj ∙ the-loop .inv .drew .risen .as-long .same-obj
+
+same-length-8 : tie.Need-same-length-8 Inv-loop μ-loop
+same-length-8 c =
+    let the-ask-row = c .before .before .before .before .before .before .before .before .before .before .ask-row in
+    let the-loop = c .before .before .before .before .before .before .before .before .before .before .before .before .before .before .before .before .before .before .before .before .before .before .before .loop in
+    the-ask-row .ensures .drew .risen .as-long .same-ann ∙ the-loop .inv .drew .risen .as-long .same-ann
 
 returns-2 : tie.Need-returns-2 Inv-loop μ-loop
 returns-2 c =
-    let the-loop = c .before .loop in
-    let the-loop-test = c .loop-test in
-    round-end rhodf-driven (the-loop .inv) (the-loop-test .left)
+    let the-loop = c .before .before .before .before .before .before .before .before .before .before .before .before .before .before .before .before .before .before .before .before .before .before .before .loop in
+    let the-next-due = c .before .before .before .before .before .before .before .before .before .before .before .before .before .before .before .before .before .before .next-due in
+    let the-ask-row = c .before .before .before .before .before .before .before .before .before .before .ask-row in
+    let the-if2 = c .if2 in
+    let the-either = c .before .either in
+    round-full rhodf-driven rhodf-staying (round-skip rhodf-driven (the-loop .inv) (the-next-due .ensures)) (the-ask-row .ensures) (the-if2 .taken) (the-either .ensures)
+
+add-i : tie.Need-add-i Inv-loop μ-loop
+add-i c =
+    let the-if1 = c .before .before .before .before .before .before .before .before .before .before .before .before .before .before .before .before .before .if1 in
+    let the-loop = c .before .before .before .before .before .before .before .before .before .before .before .before .before .before .before .before .before .before .before .before .before .before .before .loop in
+    omega (arith, the-if1 .left, the-loop .inv .drew .risen .sound .within, the-loop .inv .drew .risen .sound .long)
+
+loop-less : tie.Need-loop-less Inv-loop μ-loop
+loop-less c =
+    let the-if1 = c .before .before .before .before .before .before .before .before .before .before .before .before .before .before .before .before .before .if1 in
+    let the-next-due = c .before .before .before .before .before .before .before .before .before .before .before .before .before .before .before .before .before .before .next-due in
+    let the-loop = c .before .before .before .before .before .before .before .before .before .before .before .before .before .before .before .before .before .before .before .before .before .before .before .loop in
+    omega (arith, the-if1 .left, the-next-due .ensures .reached, the-loop .inv .drew .risen .sound .within, the-loop .inv .drew .risen .as-long .same-subj)
+
+loop-again : tie.Need-loop-again Inv-loop μ-loop
+loop-again c =
+    let the-loop = c .before .before .before .before .before .before .before .before .before .before .before .before .before .before .before .before .before .before .before .before .before .before .before .loop in
+    let the-next-due = c .before .before .before .before .before .before .before .before .before .before .before .before .before .before .before .before .before .before .next-due in
+    let the-if1 = c .before .before .before .before .before .before .before .before .before .before .before .before .before .before .before .before .before .if1 in
+    let the-ask-row = c .before .before .before .before .before .before .before .before .before .before .ask-row in
+    let the-if2 = c .if2 in
+    let the-either = c .before .either in
+    round-turn rhodf-driven rhodf-staying (round-skip rhodf-driven (the-loop .inv) (the-next-due .ensures)) (omega (arith, the-if1 .left)) (the-ask-row .ensures) (the-if2 .left) (the-either .ensures)
 
 pub round-spec : {M : Type 1} → statement M
 round-spec =
     tie.close
     (tie.spec
-    Inv-loop μ-loop loop-holds draw-row-requires (λ c κs. search needs) (λ c. search needs) (λ c. search needs) (λ c. search needs) (λ c. search needs)
-    returns add-i loop-less loop-again (λ c. search needs) (λ c. search needs) (λ c. search needs) (λ c. search needs) returns-2)
+    Inv-loop μ-loop loop-holds next-due-requires same-length same-length-2 same-length-3 same-length-4 returns ask-row-requires (λ c κs. search needs) same-length-5 same-length-6 same-length-7 same-length-8 returns-2 add-i loop-less loop-again)

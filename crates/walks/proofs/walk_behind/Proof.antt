@@ -7,7 +7,7 @@ use Rattle.table.specs.Rows.{lanes}
 use Rattle.table.proofs.Soundness.{sound-ordered}
 use Rattle.rhodf.specs.Rules.{Rule}
 use Rattle.walks.specs.Rising.{Drew}
-use Rattle.walks.specs.Walks.{RowMet}
+use Rattle.walks.specs.Walks.{OfOne, RowMet}
 use Rattle.walks.proofs.Rising.{Passed, turn, goes-on, drew-full}
 use Rattle.walks.proofs.Neighbours.{within-two}
 use Rattle.walks.proofs.Walking.{walk-start, walk-end, next-met}
@@ -17,7 +17,7 @@ use Rattle.walks.proofs.walk_behind.Tie as tie
 
 abbrev Inv-loop : tie.InvT-loop
 Inv-loop kind subj₀ pred₀ obj₀ ann₀ count plan a hint n₀ changed₀ near₀ i₀ subj pred obj ann n changed near i =
-    Drew Rule kind (Passed (RowMet kind plan a) i₀ i (lanes subj₀ pred₀ obj₀ ann₀) count) (lanes subj₀ pred₀ obj₀ ann₀) count (lanes subj pred obj ann) false changed n
+    Drew Rule kind (OfOne (plan .s)) (Passed (RowMet kind plan a) i₀ i (lanes subj₀ pred₀ obj₀ ann₀) count) (lanes subj₀ pred₀ obj₀ ann₀) count (lanes subj pred obj ann) false changed n
 
 abbrev μ-loop : tie.MeasureT-loop
 μ-loop kind subj₀ pred₀ obj₀ ann₀ count plan a hint n₀ changed₀ near₀ i₀ subj pred obj ann n changed near i =

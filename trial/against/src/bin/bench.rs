@@ -8,7 +8,7 @@
 
 use against::running::Running;
 use against::stored_questions::{ann, con, holder, triple, var, BOTH, EITHER};
-use against::{asking, baseline, calls, records};
+use against::{asking, baseline, calls, records, slow};
 use std::hint::black_box;
 use std::time::Instant;
 use trial::steps::{Step, ANNS, MOST_ANSWERS, MOST_STEPS, TERMS};
@@ -104,6 +104,29 @@ fn measure(name: &str, kind: u8, triples: &[Triple]) {
     let (rounds, drawn) = work_done(kind, &rows);
     println!(
         "{name:6} {kind:4} {:5} {:7} {rounds:7} {drawn:7} {proved:12.0} {plain:12.0} {:8.2}",
+        rows.len(),
+        closed.count,
+        proved / plain
+    );
+}
+
+/// A book made to be slow: the same, without the plainest way, which would take too long.
+fn measure_slow(name: &str, order: &str, kind: u8, rows: &[Row]) {
+    let mut filled = Lanes::zero(1024);
+    table::fill(&mut filled, rows);
+    let mut lanes = filled.clone();
+    let closed = calls::close(kind, &mut lanes, rows.len());
+    let (plain_rows, _) = baseline::close(kind, rows);
+    assert_eq!(table::rows(&lanes, closed.count), plain_rows, "{name} {order}, kind {kind}");
+    let proved = best(|| {
+        lanes.clone_from(&filled);
+        black_box(calls::close(kind, &mut lanes, rows.len()));
+    });
+    let plain = best(|| {
+        black_box(baseline::close(kind, black_box(rows)));
+    });
+    println!(
+        "{name:16} {order:8} {kind:5} {:5} {:7} {proved:12.0} {plain:12.0} {:8.2}",
         rows.len(),
         closed.count,
         proved / plain
@@ -224,6 +247,14 @@ fn main() {
         measure("chain", 1, &chain(links));
         measure("types", 1, &types(things));
         measure("web", 1, &web(uses));
+    }
+    println!("\nmade to be slow  order     kind  rows  closed   proved, us    plain, us    ratio");
+    for size in [64, 250, 1000] {
+        for order in slow::ORDERS {
+            for (name, kind, rows) in slow::books(order, size) {
+                measure_slow(name, order, kind, &rows);
+            }
+        }
     }
     println!("\nwhat                           size   proved, us    plain, us    ratio");
     for rows in [100, 300, 1000] {

@@ -1,0 +1,128 @@
+-- While a round goes on, the rows that it has passed obey their plans unless they meet what rose; rows may move, and keep their order. Assumes nothing.
+use mathlib.Core.Path.{_≡_, refl, sym, subst, _∙_}
+use mathlib.Core.Bool.{Bool, true, false, true≢false}
+use mathlib.Core.List.{List}
+use mathlib.Core.Logic.{_⊎_, inl, inr, ⊎-elim}
+use Prim.Native.Nat.{ℕ, zero, suc, _+_, _≤_, _<_}
+use native.Mathlib.Omega.{arith}
+use Rattle.ground.specs.Lists.{All}
+use Rattle.term.specs.Term.{sp}
+use Rattle.annotation.specs.Kinds.{algebra}
+use Rattle.annotation.proofs.KindLaws.{laws}
+use Rattle.annotation.proofs.Legal.{legal-value}
+use Rattle.annotation.proofs.Order.{at-most-le}
+use Rattle.table.specs.Rows.{Lanes, Triple, triple, key, rowAt, rowsOf}
+use Rattle.table.specs.Sound.{Sound}
+use Rattle.table.proofs.Soundness.{sound-list}
+use Rattle.table.proofs.Ordering.{Tri, less, same, more, tri, climbs}
+use Rattle.table.proofs.Values.{RowHeld, held-row}
+use Rattle.rhodf.specs.Graph.{Graph, graphOf, Below}
+use Rattle.rhodf.specs.Rules.{Rules}
+use Rattle.rhodf.proofs.Growing.{rows-valued}
+use Rattle.termset.specs.Termset.{holds, Among}
+use Rattle.termset.proofs.Holding.{not-among}
+use Rattle.plans.specs.declared.Plan.{Plan}
+use Rattle.plans.specs.Plans.{Obeyed}
+use Rattle.walks.proofs.Rising.{which}
+use Rattle.walks.proofs.Neighbours.{row-value, row-held}
+use Rattle.rounds.specs.Due.{Still, Quiet}
+use Rattle.rounds.specs.Rounds.{tripleAt, RowObeyed, RowAsked}
+use Rattle.rounds.proofs.Staying.{Apart, Staying}
+
+-- ---- smaller sets
+
+pub still-before : {a b : List ℕ} {t : Triple} → Among a b → Still b t → Still a t
+still-before {a} {b} {t} h s = record {
+  self = not-among h (t .s) (s .self);
+  by-predicate = not-among h (t .p) (s .by-predicate);
+  by-object = λ p. not-among h (t .o) (s .by-object p);
+}
+
+quiet-apart : {a : List ℕ} {G : Graph} {t : Triple} → Quiet a G t → Apart (λ x. holds a x ≡ true) G t
+quiet-apart q = record {
+  by-predicate = λ e. true≢false (sym e ∙ q .still .by-predicate);
+  by-object = λ p e. true≢false (sym e ∙ q .still .by-object p);
+  behind = λ z h e. true≢false (sym e ∙ q .behind z h);
+}
+
+-- ---- rows and their triples
+
+module _ {kind : ℕ} {l : Lanes} {n : ℕ} (sound : Sound kind l n) where
+  pub row-positive : (j : ℕ) → j < n → 0 < graphOf (rowsOf l n) (tripleAt l j)
+  row-positive j h = rw (row-held kind l n sound j h) (legal-value (rowAt l j .a) kind (sound .legal j h .annotation) .0)
+
+-- a table that has risen
+module _ {kind : ℕ} {l : Lanes} {n : ℕ} {m : Lanes} {n′ : ℕ} (before : Sound kind l n) (after : Sound kind m n′)
+    (up : Below (algebra kind) (graphOf (rowsOf l n)) (graphOf (rowsOf m n′))) where
+  above-positive : (t : Triple) → 0 < graphOf (rowsOf l n) t → 0 < graphOf (rowsOf m n′) t
+  above-positive t h = omega (arith, h, at-most-le (algebra kind) (laws kind) (graphOf (rowsOf l n) t) (graphOf (rowsOf m n′) t) (up .below t))
+
+  quiet-before : {a b : List ℕ} {t : Triple} → Among a b → Quiet b (graphOf (rowsOf m n′)) t → Quiet a (graphOf (rowsOf l n)) t
+  quiet-before {a} {b} {t} h q = record {
+    still = still-before h (q .still);
+    behind = λ z p. not-among h z (q .behind z (above-positive (triple (t .p) sp z) p));
+  }
+
+  -- a row keeps its place or moves up
+  place-grows : (j i : ℕ) → j < n → i < n′ → key (rowAt l j) ≡ key (rowAt m i) → j ≤ i
+  place-grows zero i hj hi e = omega arith
+  place-grows (suc j) i hj hi e =
+      let f = held-row n′ (rowAt m) (tripleAt l j) (above-positive (tripleAt l j) (row-positive before j (omega arith))) in
+      let r = f .is-row in
+      let ek : key (rowAt m (f .at)) ≡ key (rowAt l j) = rw (r .same-s, r .same-p, r .same-o) refl in
+      go (f .at) (f .within) ek (place-grows j (f .at) (omega arith) (f .within) (sym ek)) (tri (f .at) i)
+    where
+      go : (k : ℕ) → k < n′ → key (rowAt m k) ≡ key (rowAt l j) → j ≤ k → Tri k i → suc j ≤ i
+      go k w ek ih (less z) = omega arith
+      go k w ek ih (same z) =
+          let eq : key (rowAt m k) ≡ key (rowAt m i) = rw z refl in
+          absurd (omega (arith, eq, before .ascending j hj))
+      go k w ek ih (more z) = absurd (omega (arith, climbs n′ (λ x. key (rowAt m x)) (after .ascending) k i z w, before .ascending j hj))
+
+-- ---- what a round has settled
+
+-- a row that meets nothing that rose obeys its plans, if it was passed or is not due
+abbrev pub Settled : (Triple → List Plan) → ℕ → List ℕ → List ℕ → Lanes → ℕ → ℕ → Type 0
+Settled plans kind due rose l n i =
+    (j : ℕ) → j < n → Quiet rose (graphOf (rowsOf l n)) (tripleAt l j) → (i ≤ j → Still due (tripleAt l j)) → RowObeyed plans kind l n j
+
+module _ {R : Rules} {plans : Triple → List Plan} (staying : Staying plans) {kind : ℕ} {l : Lanes} {n i : ℕ} {m : Lanes} {full changed : Bool} {n′ : ℕ}
+    {due due′ rose rose′ : List ℕ} (there : i < n) (sound : Sound kind l n) (a : RowAsked R plans kind l n i m full changed n′ due due′ rose rose′)
+    (room : full ≡ false) (settled : Settled plans kind due rose l n i) where
+  abbrev G : Graph
+  G = graphOf (rowsOf l n)
+
+  abbrev H : Graph
+  H = graphOf (rowsOf m n′)
+
+  asked : Quiet rose′ H (tripleAt l i) → RowObeyed plans kind l n i
+  asked q = ⊎-elim
+      (λ t. absurd (true≢false (sym (a .again t) ∙ q .still .self)))
+      (a .drew .inside room) (which changed)
+
+  passed : (j : ℕ) → j < n → Quiet rose′ H (tripleAt l j) → (i < j → Still due′ (tripleAt l j)) → RowObeyed plans kind l n j
+  passed j h q w = go (tri i j)
+    where
+      go : Tri i j → RowObeyed plans kind l n j
+      go (less z) =
+          settled j h (quiet-before sound (a .drew .risen .sound) (a .drew .risen .up) (a .rose-more) q) (λ _. still-before (a .due-more) (w z))
+      go (same z) = subst (λ (k : ℕ). Quiet rose′ H (tripleAt l k) → RowObeyed plans kind l n k) z asked q
+      go (more z) = settled j h (quiet-before sound (a .drew .risen .sound) (a .drew .risen .up) (a .rose-more) q) (λ y. absurd (omega arith))
+
+  pub settled-on : Settled plans kind due′ rose′ m n′ (i + 1)
+  settled-on j h q w =
+      let t : Triple = tripleAt m j in
+      let sound′ = a .drew .risen .sound in
+      let e : H t ≡ G t = a .drew .kept t (λ z. true≢false (sym z ∙ q .still .self)) in
+      let f : RowHeld n (rowAt l) t = held-row n (rowAt l) t (omega (arith, e, row-positive sound′ j h)) in
+      let r = f .is-row in
+      let is : tripleAt l (f .at) ≡ t = λ k. triple (r .same-s k) (r .same-p k) (r .same-o k) in
+      let ek : key (rowAt l (f .at)) ≡ key (rowAt m j) = rw (r .same-s, r .same-p, r .same-o) refl in
+      let low : f .at ≤ j = place-grows sound sound′ (a .drew .risen .up) (f .at) j (f .within) h ek in
+      let o : RowObeyed plans kind l n (f .at) = passed (f .at) (f .within)
+      (subst (λ (u : Triple). Quiet rose′ H u) (sym is) q) (λ z. subst (λ (u : Triple). Still due′ u) (sym is) (w (omega (arith, z, low)))) in
+      let all : All (λ plan. Obeyed (algebra kind) G plan (rowAt l (f .at) .a)) (plans t)
+      = subst (λ (u : Triple). All (λ plan. Obeyed (algebra kind) G plan (rowAt l (f .at) .a)) (plans u)) is o in
+      subst (λ (v : ℕ). All (λ plan. Obeyed (algebra kind) H plan v) (plans t)) (sym (f .value-is) ∙ sym e ∙ row-held kind m n′ sound′ j h)
+      (staying .stays (algebra kind) (laws kind) (λ x. holds rose′ x ≡ true) G H (rows-valued kind (rowsOf m n′) (sound-list sound′)) (a .drew .risen .up) (a .drew .kept)
+      t (quiet-apart q) (rowAt l (f .at) .a) (row-value kind l n sound (f .at) (f .within)) all)

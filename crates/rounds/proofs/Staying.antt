@@ -1,0 +1,106 @@
+-- A row that obeys its plans goes on obeying them while nothing that it can meet rises; and its conclusions have its subject or its object. Assumes nothing.
+use mathlib.Core.Path.{_≡_, refl}
+use mathlib.Core.Bool.{Bool, true, false}
+use mathlib.Core.List.{List}
+use mathlib.Core.Logic.{_⊎_, inl, inr}
+use Prim.Native.Nat.{ℕ, _<_}
+use native.Mathlib.Omega.{arith}
+use lib.Dec.{eqb}
+use borrow.Author.Tests.{eqb-true}
+use Rattle.ground.specs.Lists.{All}
+use Rattle.term.specs.Term.{sp, sc, type, dom, range}
+use Rattle.annotation.specs.Algebra.{Algebra, Laws}
+use Rattle.annotation.proofs.Order.{at-most-trans}
+use Rattle.table.specs.Rows.{Triple, triple}
+use Rattle.table.proofs.Ordering.{Tri, less, same, more, tri}
+use Rattle.rhodf.specs.Graph.{Graph, Valued, Below}
+use Rattle.plans.specs.declared.Plan.{Plan}
+use Rattle.plans.specs.Plans.{shapeOff, shapeBehind, straightIf, renamingPlan, behindPlan, plansOf, plansFor, Met, Obeyed}
+use Rattle.plans.proofs.Meeting.{met-bottom}
+
+-- a row of t meets no row of these subjects
+pub record Apart (S : ℕ → Type 0) (G : Graph) (t : Triple) : Type 0 where
+  pub by-predicate : S (t .p) → ⊥
+  pub by-object : t .p < dom → S (t .o) → ⊥
+  pub behind : (z : ℕ) → 0 < G (triple (t .p) sp z) → S z → ⊥
+
+-- what rounds need to know of plans to ask a row only when it is due
+pub record Staying (plans : Triple → List Plan) : Type 1 where
+  -- from G to H above it nothing but triples of the subjects S rose
+  pub stays : (K : Algebra) → Laws K → (S : ℕ → Type 0) → (G H : Graph) → Valued K H → Below K G H → ((u : Triple) → (S (u .s) → ⊥) → H u ≡ G u)
+      → (t : Triple) → Apart S H t → (a : ℕ) → K .Value a
+      → All (λ plan. Obeyed K G plan a) (plans t) → All (λ plan. Obeyed K H plan a) (plans t)
+  pub gives : (t : Triple) → All (λ plan. (plan .s ≡ t .s) ⊎ (plan .s ≡ t .o)) (plans t)
+
+module _ (K : Algebra) (L : Laws K) (S : ℕ → Type 0) (G H : Graph) (v : Valued K H) (up : Below K G H) (kept : (u : Triple) → (S (u .s) → ⊥) → H u ≡ G u)
+    (a : ℕ) (va : K .Value a) where
+  off-obeyed : (plan : Plan) → plan .shape ≡ shapeOff → Obeyed K H plan a
+  off-obeyed plan e = record {
+    met = λ z. record { straight = λ f. absurd (omega (arith, e, f)); renaming = λ f. absurd (omega (arith, e, f)); behind = λ f. absurd (omega (arith, e, f)) };
+  }
+
+  plan-stays : (plan : Plan) → (S (plan .q) → ⊥) → (plan .shape ≡ shapeBehind → (z : ℕ) → 0 < H (triple (plan .q) (plan .r) z) → S z → ⊥)
+      → Obeyed K G plan a → Obeyed K H plan a
+  plan-stays plan apart deep o = record { met = λ z. go z (tri 0 (H (triple (plan .q) (plan .r) z))) }
+    where
+      go : (z : ℕ) → Tri 0 (H (triple (plan .q) (plan .r) z)) → Met K H plan z (K .meet a (H (triple (plan .q) (plan .r) z)))
+      go z (less h) =
+          let e : H (triple (plan .q) (plan .r) z) ≡ G (triple (plan .q) (plan .r) z) = kept (triple (plan .q) (plan .r) z) apart in
+          let c : ℕ = K .meet a (G (triple (plan .q) (plan .r) z)) in
+          rw e (record {
+            straight = λ f named.
+                let t = triple (plan .s) (plan .p) z in
+                at-most-trans K L c (G t) (H t) (o .met z .straight f named) (up .below t);
+            renaming = λ f named.
+                let t = triple (plan .s) z (plan .o) in
+                at-most-trans K L c (G t) (H t) (o .met z .renaming f named) (up .below t);
+            behind = λ f w named.
+                let t = triple (plan .s) (plan .p) w in
+                rw (kept (triple z (plan .t) w) (deep f z h))
+                (at-most-trans K L (K .meet c (G (triple z (plan .t) w))) (G t) (H t) (o .met z .behind f w named) (up .below t));
+          })
+      go z (same e) = rw (← e, L .meet-bottom a va) (met-bottom K L H v plan z)
+      go z (more h) = absurd (omega arith)
+
+  straight-stays : (on : Bool) (q r s p : ℕ) → (on ≡ true → S q → ⊥) → Obeyed K G (straightIf on q r s p) a → Obeyed K H (straightIf on q r s p) a
+  straight-stays true q r s p apart o = plan-stays (straightIf true q r s p) (apart refl) (λ f. absurd (omega arith)) o
+  straight-stays false q r s p apart o = off-obeyed (straightIf false q r s p) refl
+
+  -- the eight plans
+  all-stay : (x d y : ℕ) → Apart S H (triple x d y) → All (λ plan. Obeyed K G plan a) (plansOf x d y) → All (λ plan. Obeyed K H plan a) (plansOf x d y)
+  unfolding plansOf
+  all-stay x d y apart o = (
+    straight-stays (eqb d sp) y sp x sp (λ e. apart .by-object (omega (arith, eqb-true d sp e))) (o .0),
+    (
+      plan-stays (renamingPlan d sp x y) (apart .by-predicate) (λ f. absurd (omega arith)) (o .1 .0),
+      (
+        straight-stays (eqb d sc) y sc x sc (λ e. apart .by-object (omega (arith, eqb-true d sc e))) (o .1 .1 .0),
+        (
+          straight-stays (eqb d type) y sc x type (λ e. apart .by-object (omega (arith, eqb-true d type e))) (o .1 .1 .1 .0),
+          (
+            plan-stays (straightIf true d dom x type) (apart .by-predicate) (λ f. absurd (omega arith)) (o .1 .1 .1 .1 .0),
+            (
+              plan-stays (straightIf true d range y type) (apart .by-predicate) (λ f. absurd (omega arith)) (o .1 .1 .1 .1 .1 .0),
+              (
+                plan-stays (behindPlan d sp dom x type) (apart .by-predicate) (λ f z h. apart .behind z h) (o .1 .1 .1 .1 .1 .1 .0),
+                (
+                  plan-stays (behindPlan d sp range y type) (apart .by-predicate) (λ f z h. apart .behind z h) (o .1 .1 .1 .1 .1 .1 .1 .0),
+                  tt,
+                ),
+              ),
+            ),
+          ),
+        ),
+      ),
+    ),
+  )
+
+all-give : (x d y : ℕ) → All (λ plan. (plan .s ≡ x) ⊎ (plan .s ≡ y)) (plansOf x d y)
+unfolding plansOf
+all-give x d y = (inl refl, (inl refl, (inl refl, (inl refl, (inl refl, (inr refl, (inl refl, (inr refl, tt))))))))
+
+pub rhodf-staying : Staying plansFor
+rhodf-staying = record {
+  stays = λ K L S G H v up kept t apart a va h. all-stay K L S G H v up kept a va (t .s) (t .p) (t .o) apart h;
+  gives = λ t. all-give (t .s) (t .p) (t .o);
+}

@@ -1,0 +1,65 @@
+-- Scaffolding, cited by inner contracts alone: which rows can meet one that rose, by the sets of the subjects that did.
+use mathlib.Core.Path.{_≡_}
+use mathlib.Core.Bool.{Bool, true, false}
+use mathlib.Core.List.{List}
+use mathlib.Core.Logic.{_⊎_}
+use Prim.Native.Nat.{ℕ, _≤_, _<_}
+use lib.ListN.{length, getD}
+use Rattle.term.specs.Term.{sp, dom}
+use Rattle.table.specs.Rows.{Triple, triple}
+use Rattle.rhodf.specs.Graph.{Graph}
+use Rattle.termset.specs.Termset.{words, holds, Among}
+
+-- of a row of t: its own subject, its predicate and, where it is of sp, sc or type, its object are not in the set
+pub record Still (set : List ℕ) (t : Triple) : Type 0 where
+  pub self : holds set (t .s) ≡ false
+  pub by-predicate : holds set (t .p) ≡ false
+  pub by-object : t .p < dom → holds set (t .o) ≡ false
+
+-- nor, in the graph, is an A with (D sp A) for its predicate D: no row that it can meet has a subject of the set
+pub record Quiet (set : List ℕ) (G : Graph) (t : Triple) : Type 0 where
+  pub still : Still set t
+  pub behind : (z : ℕ) → 0 < G (triple (t .p) sp z) → holds set z ≡ false
+
+pub record MeetsNone (set : List ℕ) (t : Triple) (r : Bool) : Type 0 where
+  pub none : r ≡ false → Still set t
+
+-- the subjects that asking a row of t may raise: its own, and its object where `other`
+abbrev pub OfRow : Triple → Bool → ℕ → Type 0
+OfRow t other x = (x ≡ t .s) ⊎ ((other ≡ true) × (x ≡ t .o))
+
+-- r keeps `other`, and says it of a plan that gave rows of a subject s that is not x
+pub record Strayed (other changed : Bool) (s x : ℕ) (r : Bool) : Type 0 where
+  pub keeps : other ≡ true → r ≡ true
+  pub tells : changed ≡ true → (s ≡ x) ⊎ (r ≡ true)
+
+-- the two sets are sets
+pub record Sets (due rose : List ℕ) : Type 0 where
+  pub due-long : length due ≡ words
+  pub rose-long : length rose ≡ words
+
+-- both sets have grown, and x and y are in `rose` where they rose
+pub record Marked (changed other : Bool) (x y : ℕ) (due due′ rose rose′ : List ℕ) : Type 0 where
+  pub due-more : Among due due′
+  pub rose-more : Among rose rose′
+  pub self : changed ≡ true → holds rose′ x ≡ true
+  pub beside : changed ≡ true → other ≡ true → holds rose′ y ≡ true
+
+-- whether d is sp and y in the set
+pub record Leads (set : List ℕ) (d y : ℕ) (r : Bool) : Type 0 where
+  pub leads : d ≡ sp → holds set y ≡ true → r ≡ true
+
+pub record RowsOfThree (subj pred obj : List ℕ) (n : ℕ) : Type 0 where
+  pub in-subj : n ≤ length subj
+  pub in-pred : n ≤ length pred
+  pub in-obj : n ≤ length obj
+
+-- r is `from` or behind it, and the rows from there up to it are not due
+pub record NextDue (subj pred obj : List ℕ) (from : ℕ) (due : List ℕ) (r : ℕ) : Type 0 where
+  pub reached : from ≤ r
+  pub none : (j : ℕ) → from ≤ j → j < r → Still due (triple (getD subj j 0) (getD pred j 0) (getD obj j 0))
+
+-- the set has grown by each D with a row (D sp A) among the first n and A in it
+pub record Spread (subj pred obj : List ℕ) (n : ℕ) (rose rose′ : List ℕ) : Type 0 where
+  pub more : Among rose rose′
+  pub behind : (j : ℕ) → j < n → getD pred j 0 ≡ sp → holds rose (getD obj j 0) ≡ true → holds rose′ (getD subj j 0) ≡ true

@@ -1,0 +1,2 @@
+-- What is in a set of terms, and in one with a term more.
+pub mod Holding

@@ -1,0 +1,2 @@
+-- The definitions that the contracts of `termset`, and of the rounds above it, cite.
+pub mod Termset
