@@ -3,3 +3,4 @@ pub mod Trace
 pub mod Bounded
 pub mod Running
 pub mod Going
+pub mod Working
