@@ -1,5 +1,5 @@
 # `make run` proves the two programs and runs them on the samples; `make test` is the gate.
-.PHONY: run test host fitting bench soak fuzz
+.PHONY: run test host fitting bench soak fuzz peers
 # Two rt over one tree spoil each other's target/.
 .NOTPARALLEL:
 
@@ -17,10 +17,11 @@ test:
 target/staticlib/lib%.a: crates.txt $(shell find crates -name '*.rt' -o -name '*.antt')
 	rt staticlib $*
 
-# The C host over the exported call.
+# The C hosts over the exported calls.
 host: target/staticlib/libtrackvesper.a
 	mkdir -p target/host
 	cc -std=c11 -Wall -Wextra -Werror -O2 -o target/host/close_book examples/close_book.c target/staticlib/libtrackvesper.a
+	cc -std=c11 -Wall -Wextra -Werror -O2 -o target/host/triples examples/triples.c target/staticlib/libtrackvesper.a
 
 # The text form for people: target/fitting/release/fitting (tools/fitting/README.md).
 fitting:
@@ -33,10 +34,16 @@ SEED ?= 1000000
 soak: target/staticlib/libtrial_calls.a
 	cd trial && CARGO_TARGET_DIR=../target/trial cargo run --release --offline --quiet --package against --bin soak -- $(MINUTES) $(SEED)
 
-# Arbitrary bytes to the exported call and the programs, for MINUTES (fuzz/README.md).
+# Arbitrary bytes to the exported calls and the programs, for MINUTES (fuzz/README.md).
 fuzz:
 	fuzz/run $(MINUTES)
 
-# Closing, running, reading and compiling beside plain Rust (docs/BENCHMARKS.md).
-bench: target/staticlib/libtrial_calls.a
+# rapper and serdi beside the proved calls, on FILES plain files; installs them (tools/peers/README.md).
+FILES ?= 200
+
+peers: target/staticlib/libtrial_calls.a
+	tools/peers/run $(FILES)
+
+# Closing, running, reading, compiling and makers' lists beside plain Rust (docs/BENCHMARKS.md).
+bench: target/staticlib/libtrial_calls.a host
 	cd trial && CARGO_TARGET_DIR=../target/trial cargo run --release --offline --quiet --package against --bin bench

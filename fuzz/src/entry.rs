@@ -2,6 +2,7 @@
 
 use crate::exported::{self, Call};
 use crate::programs::{self, Program};
+use crate::triples::{self, Calls, Read, Write};
 use crate::Fault;
 use std::ffi::{c_char, c_int, CStr};
 
@@ -57,4 +58,28 @@ pub unsafe extern "C" fn fuzz_judge_program(
 #[no_mangle]
 pub unsafe extern "C" fn fuzz_judge_exported(call: Call, input: *const u8, length: usize) {
     settle(exported::judge(call, lent(input, length)));
+}
+
+/// # Safety
+/// `read` and `write` are the exported calls, and `input` are `length` bytes.
+#[no_mangle]
+pub unsafe extern "C" fn fuzz_judge_reading(
+    read: Read,
+    write: Write,
+    input: *const u8,
+    length: usize,
+) {
+    settle(triples::judge_reading(Calls { read, write }, lent(input, length)));
+}
+
+/// # Safety
+/// `read` and `write` are the exported calls, and `input` are `length` bytes.
+#[no_mangle]
+pub unsafe extern "C" fn fuzz_judge_writing(
+    read: Read,
+    write: Write,
+    input: *const u8,
+    length: usize,
+) {
+    settle(triples::judge_writing(Calls { read, write }, lent(input, length)));
 }

@@ -1,17 +1,67 @@
-//! The kept corpus again, with no fuzzer: through the programs as processes, and the exported call from
-//! the static library, each as it is handed out.
+//! The kept corpus again, with no fuzzer: through the programs as processes, and the exported calls
+//! from the static library, each as it is handed out.
 
-use fuzz::{exported, programs};
+use fuzz::triples::{self, Calls};
+use fuzz::{exported, inputs, programs};
 use std::collections::BTreeSet;
 use std::io::{Read, Write};
 use std::path::{Path, PathBuf};
 use std::process::{Command, Stdio};
 use std::time::{Duration, Instant};
+use trial::ntriples::{read_triples, write_triples};
+use trial::random::files::{self, Reading};
+use trial::random::lists::{self, Writing};
+use trial::random::Random;
 
 #[link(name = "trackvesper", kind = "static")]
 extern "C" {
     fn trackvesper_close_book(book: *const u8, length: usize, out: *mut u8, room: usize) -> u64;
+
+    fn trackvesper_read_triples(
+        kind: u8,
+        annotation: u64,
+        file: *const u8,
+        file_length: usize,
+        subj: *mut u16,
+        subj_length: usize,
+        pred: *mut u16,
+        pred_length: usize,
+        obj: *mut u16,
+        obj_length: usize,
+        ann: *mut u64,
+        ann_length: usize,
+        terms: *mut u16,
+        terms_length: usize,
+        ends: *mut u16,
+        ends_length: usize,
+        text: *mut u8,
+        text_length: usize,
+    ) -> u64;
+
+    fn trackvesper_write_triples(
+        kind: u8,
+        subj: *const u16,
+        subj_length: usize,
+        pred: *const u16,
+        pred_length: usize,
+        obj: *const u16,
+        obj_length: usize,
+        ann: *const u64,
+        ann_length: usize,
+        count: usize,
+        terms: *const u16,
+        terms_length: usize,
+        ends: *const u16,
+        ends_length: usize,
+        text: *const u8,
+        text_length: usize,
+        names: usize,
+        out: *mut u8,
+        out_length: usize,
+    ) -> u64;
 }
+
+const CALLS: Calls = Calls { read: trackvesper_read_triples, write: trackvesper_write_triples };
 
 const LIMIT: Duration = Duration::from_secs(20);
 
@@ -86,6 +136,18 @@ fn the_exported_call_gives_what_it_must() {
     }
 }
 
+#[test]
+fn the_calls_for_makers_lists_give_what_they_must() {
+    for (file, input) in corpus("read_triples") {
+        triples::judge_reading(CALLS, &input)
+            .unwrap_or_else(|fault| panic!("read_triples/{file}: {fault}"));
+    }
+    for (file, input) in corpus("write_triples") {
+        triples::judge_writing(CALLS, &input)
+            .unwrap_or_else(|fault| panic!("write_triples/{file}: {fault}"));
+    }
+}
+
 /// The numbers behind a word in what the model prints for the corpus of a program.
 fn met(program: &programs::Program, word: &str) -> BTreeSet<u64> {
     let texts = corpus(program.name).into_iter().map(|(_, input)| (program.model)(&input));
@@ -100,9 +162,9 @@ fn met(program: &programs::Program, word: &str) -> BTreeSet<u64> {
 /// Small files, and among them every number that a small input can get: not 13, and 12 by closing.
 #[test]
 fn the_corpus_is_small_and_meets_every_number() {
-    for target in ["exported", "close_book", "counter"] {
+    for target in ["exported", "read_triples", "write_triples", "close_book", "counter"] {
         let files = corpus(target);
-        assert!((1..=80).contains(&files.len()), "{target}: {} files", files.len());
+        assert!((1..=160).contains(&files.len()), "{target}: {} files", files.len());
         assert!(files.iter().all(|(_, input)| input.len() <= 1000), "{target}");
     }
     let refused = BTreeSet::from([1, 2, 3, 4, 5, 6, 7, 8, 9, 10, 12]);
@@ -112,6 +174,38 @@ fn the_corpus_is_small_and_meets_every_number() {
     assert_eq!(met(counter, "refused"), refused);
     let asked = BTreeSet::from([0, 8, 9, 10, 12, 16, 17, 18, 19, 20, 21, 22]);
     assert_eq!(met(counter, "asked"), asked);
+    let read = corpus("read_triples").into_iter().map(|(_, input)| {
+        let Reading { kind, ann, file, mut lanes, mut names } = inputs::reading(&input);
+        read_triples(kind, ann, &file, &mut lanes, &mut names).number
+    });
+    assert_eq!(BTreeSet::from_iter(read), BTreeSet::from([0, 4, 10, 11, 12, 26, 27]));
+    let written = corpus("write_triples").into_iter().map(|(_, input)| {
+        let Writing { kind, lanes, count, names, listed, mut out } = inputs::writing(&input);
+        write_triples(kind, &lanes, count, &names, listed, &mut out).number
+    });
+    let numbers = BTreeSet::from([0, 4, 8, 9, 10, 11, 12, 14, 15, 39]);
+    assert_eq!(BTreeSet::from_iter(written), numbers);
+}
+
+/// What the model's generators deal is said by an input and had back from it.
+#[test]
+fn inputs_say_readings_and_writings() {
+    for seed in 0..500 {
+        let reading = files::reading(&mut Random::new(seed));
+        let back = inputs::reading(&inputs::of_reading(&reading));
+        assert_eq!((back.kind, back.ann, back.file), (reading.kind, reading.ann, reading.file));
+        if reading.lanes.fit() && reading.names.fit() {
+            assert_eq!(back.lanes.subj.len(), reading.lanes.subj.len(), "seed {seed}");
+            assert_eq!(back.names.ends.len(), reading.names.ends.len(), "seed {seed}");
+            assert_eq!(back.names.text.len(), reading.names.text.len(), "seed {seed}");
+        }
+        let writing = lists::writing(&mut Random::new(seed));
+        let back = inputs::writing(&inputs::of_writing(&writing));
+        if writing.lanes.fit() && writing.names.fit() {
+            assert_eq!((back.lanes, back.names), (writing.lanes, writing.names), "seed {seed}");
+            assert_eq!(back.out.len(), writing.out.len().min(65_535), "seed {seed}");
+        }
+    }
 }
 
 /// The judges refuse what is not right: each output with a byte changed, cut, or with a line too many.
@@ -176,4 +270,119 @@ fn the_form_is_judged_without_the_model() {
     closing(&input, b"closed 3 0 1\n10 2 11 5\n").unwrap();
     counter(&input, b"asked 0 0 0 3\nrefused 1 0\n").unwrap();
     counter(&input, b"").unwrap();
+}
+
+/// Reading that leaves a byte in the last place of the text lane.
+unsafe extern "C" fn leaves_a_byte(
+    kind: u8,
+    annotation: u64,
+    file: *const u8,
+    file_length: usize,
+    subj: *mut u16,
+    subj_length: usize,
+    pred: *mut u16,
+    pred_length: usize,
+    obj: *mut u16,
+    obj_length: usize,
+    ann: *mut u64,
+    ann_length: usize,
+    terms: *mut u16,
+    terms_length: usize,
+    ends: *mut u16,
+    ends_length: usize,
+    text: *mut u8,
+    text_length: usize,
+) -> u64 {
+    let answer = trackvesper_read_triples(
+        kind,
+        annotation,
+        file,
+        file_length,
+        subj,
+        subj_length,
+        pred,
+        pred_length,
+        obj,
+        obj_length,
+        ann,
+        ann_length,
+        terms,
+        terms_length,
+        ends,
+        ends_length,
+        text,
+        text_length,
+    );
+    if text_length > 0 {
+        *text.add(text_length - 1) ^= 1;
+    }
+    answer
+}
+
+/// Writing that changes the last byte of the output, written or not.
+unsafe extern "C" fn changes_a_byte(
+    kind: u8,
+    subj: *const u16,
+    subj_length: usize,
+    pred: *const u16,
+    pred_length: usize,
+    obj: *const u16,
+    obj_length: usize,
+    ann: *const u64,
+    ann_length: usize,
+    count: usize,
+    terms: *const u16,
+    terms_length: usize,
+    ends: *const u16,
+    ends_length: usize,
+    text: *const u8,
+    text_length: usize,
+    names: usize,
+    out: *mut u8,
+    out_length: usize,
+) -> u64 {
+    let answer = trackvesper_write_triples(
+        kind,
+        subj,
+        subj_length,
+        pred,
+        pred_length,
+        obj,
+        obj_length,
+        ann,
+        ann_length,
+        count,
+        terms,
+        terms_length,
+        ends,
+        ends_length,
+        text,
+        text_length,
+        names,
+        out,
+        out_length,
+    );
+    if out_length > 0 {
+        *out.add(out_length - 1) ^= 1;
+    }
+    answer
+}
+
+/// Every fault planted between the judge and a call is seen.
+#[test]
+fn the_judges_of_makers_lists_see_a_changed_lane() {
+    let read = Calls { read: leaves_a_byte, ..CALLS };
+    let write = Calls { write: changes_a_byte, ..CALLS };
+    for (file, input) in corpus("read_triples") {
+        if inputs::reading(&input).names.text.is_empty() {
+            continue;
+        }
+        assert!(triples::judge_reading(read, &input).is_err(), "read_triples/{file}");
+    }
+    for (file, input) in corpus("write_triples") {
+        if inputs::writing(&input).out.is_empty() {
+            continue;
+        }
+        assert!(triples::judge_writing(write, &input).is_err(), "write_triples/{file}");
+    }
 }

@@ -2,6 +2,7 @@
 pub mod Same
 pub mod Entries
 pub mod Looking
+pub mod Hashing
 pub mod Answering
 pub mod Made
 pub mod Meaning

@@ -103,12 +103,6 @@ pub record Listing (l : NameLanes) (names : ℕ) : Type 0 where
   pub terms-zero : drop names (l .terms) ≡ replicate (length (l .terms) - names) 0
   pub ends-zero : drop names (l .ends) ≡ replicate (length (l .ends) - names) 0
 
--- a text entered into the lanes that held such a list
-pub record Entering (l m : NameLanes) (names sort : ℕ) (word : List ℕ) (r : Entered) : Type 0 where
-  pub answer : r ≡ enteredBy (length (l .terms)) (length (l .text)) (entriesOf l names) sort word
-  pub entries : entriesOf m (countAfter r names) ≡ entriesAfter r (entriesOf l names) word
-  pub listing : Listing m (countAfter r names)
-
 -- T1: "distinct entries have distinct (sort, text); .. numbers consecutive per sort in the order met"
 pub data Made : List Entry → Type 0 where
   empty : Made []

@@ -17,10 +17,6 @@ abbrev pub foundOf : Lookup → ℕ → Found
 foundOf (number n) k = Number n
 foundOf none k = Missing k
 
--- the number of a text that is listed, else how many are of its sort
-abbrev pub foundIn : List Entry → ℕ → List ℕ → Found
-foundIn es sort word = foundOf (lookup es sort word) (countOf sort es)
-
 -- the number of a text that has one, else the next of its sort
 abbrev pub numberFor : List Entry → ℕ → List ℕ → Found
 numberFor es sort word = foundOf (known es sort word) (nextOf es sort)
@@ -35,14 +31,6 @@ pub record SpanOf (l : NameLanes) (names n from to : ℕ) : Type 0 where
 abbrev pub appended : NameLanes → ℕ → ℕ → List ℕ → ℕ → NameLanes
 appended l names n word size =
     lanesOf (set (l .terms) names n) (set (l .ends) names (startOf (l .ends) names + size)) (paste (l .text) (startOf (l .ends) names) word size)
-
-abbrev pub addedBy : Bool → NameLanes → NameLanes → NameLanes
-addedBy true l m = m
-addedBy false l m = l
-
-pub record Adding (l m : NameLanes) (names n : ℕ) (word : List ℕ) (size : ℕ) (taken : List ℕ) (r : Entered) : Type 0 where
-  pub answer : r ≡ cond (hasRoom (length (l .terms)) (length (l .text)) (entriesOf l names) taken) (New n) Full
-  pub lanes : m ≡ addedBy (hasRoom (length (l .terms)) (length (l .text)) (entriesOf l names) taken) l (appended l names n word size)
 
 -- an entry put behind the last whose bytes lie there already
 pub record Lying (l m : NameLanes) (names n size : ℕ) (r : Entered) : Type 0 where

@@ -5,3 +5,4 @@ pub mod Lent
 pub mod Entering
 -- What only the parts of the code cite.
 pub mod Finding
+pub mod Hashed

@@ -1,14 +1,12 @@
-// Entries looked for: by sort and text, and by number.
+// Entries looked for by number.
 ghost use mathlib.Core.Path.{_≡_};
 ghost use Prim.Native.Nat.{_≤_, _<_};
-ghost use lib.ListN.{length, take};
+ghost use lib.ListN.{length};
 ghost use lib.Seq.{slice};
 ghost use Rattle.names.specs.Names.{startOf, textAt, entriesOf};
-ghost use Rattle.names.specs.Lent.{namesLent, namesBefore};
-ghost use Rattle.names.specs.Entering.{Listing};
-ghost use Rattle.names.specs.Finding.{foundIn, SpanOf};
+ghost use Rattle.names.specs.Lent.{namesBefore};
+ghost use Rattle.names.specs.Finding.{SpanOf};
 use crate::Span;
-use crate::texts::same;
 
 pub enum Found {
     Number(u16),
@@ -24,34 +22,6 @@ pub fn start_of(ends: &[u16], i: usize) -> usize
         return 0;
     }
     ends[i - 1] as usize
-}
-
-// The number of a text of a sort, or how many of that sort are listed.
-pub fn find(
-    terms: &[u16],
-    ends: &[u16],
-    text: &[u8],
-    names: usize,
-    sort: u16,
-    word: &[u8],
-    size: usize,
-) -> Found
-    requires { ⌜ Listing (namesLent terms ends text) names × (size ≤ length (now word)) ⌝ }
-    ensures { λ r. ⌜ r ≡ foundIn (entriesOf (namesBefore terms ends text) names) sort (take size (now (word .entry))) ⌝ }
-{
-    let mut count: u16 = 0;
-    let mut i = 0;
-    while i < names {
-        let n = terms[i];
-        if term::sort_of(n) == sort {
-            if same(text, start_of(ends, i), ends[i] as usize, word, size) {
-                return Found::Number(n);
-            }
-            count += 1;
-        }
-        i += 1;
-    }
-    Found::Missing(count)
 }
 
 // Entry i's text, or no bytes where its ends do not fit.

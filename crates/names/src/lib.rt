@@ -2,17 +2,16 @@
 // text is found. A list is full where an entry or its bytes do not fit.
 ghost use mathlib.Core.Path.{_≡_};
 ghost use Prim.Native.Nat.{_+_, _≤_};
-ghost use lib.ListN.{length, take};
-ghost use Rattle.names.specs.Names.{lanesOf, startOf, entriesOf, isUnfitList};
-ghost use Rattle.names.specs.Lent.{namesLent, namesBefore, namesAfter};
-ghost use Rattle.names.specs.Entering.{Listing, Entering, firstOf};
-ghost use Rattle.names.specs.Finding.{Adding, Lying, numberFor};
-use crate::find::Found;
-use crate::find::find;
+ghost use lib.ListN.{length};
+ghost use Rattle.names.specs.Names.{lanesOf, startOf, isUnfitList};
+ghost use Rattle.names.specs.Lent.{namesLent, namesBefore};
+ghost use Rattle.names.specs.Entering.{Listing, firstOf};
+ghost use Rattle.names.specs.Finding.{Lying};
 use crate::find::start_of;
 
 pub mod find;
 pub mod five;
+pub mod hash;
 pub mod texts;
 
 pub enum Entered {
@@ -60,79 +59,7 @@ fn first_of(sort: u16) -> u16
     32768
 }
 
-// The number that a text has, or the next of its sort.
-pub fn number_for(
-    terms: &[u16],
-    ends: &[u16],
-    text: &[u8],
-    names: usize,
-    sort: u16,
-    word: &[u8],
-    size: usize,
-) -> Found
-    requires { ⌜ Listing (namesLent terms ends text) names × (size ≤ length (now word)) ⌝ }
-    ensures { λ r. ⌜ r ≡ numberFor (entriesOf (namesBefore terms ends text) names) sort (take size (now (word .entry))) ⌝ }
-{
-    if sort == term::NAME {
-        let five = five::number_of(word, size);
-        if five < five::NONE {
-            return Found::Number(five);
-        }
-    }
-    let found = find(terms, ends, text, names, sort, word, size);
-    match found {
-        Found::Number(n) => Found::Number(n),
-        Found::Missing(count) => Found::Missing(first_of(sort) + count),
-    }
-}
-
-// An entry put behind the last, where it fits.
-fn add(
-    terms: &mut [u16],
-    ends: &mut [u16],
-    text: &mut [u8],
-    names: usize,
-    n: u16,
-    word: &[u8],
-    size: usize,
-) -> Entered
-    requires { ⌜ Listing (namesLent terms ends text) names × (size ≤ length (now word)) ⌝ }
-    ensures { λ r. ⌜ Adding (namesBefore terms ends text) (namesAfter terms ends text) names n (now (word .entry)) size (take size (now (word .entry))) r ⌝ }
-{
-    if terms.len() <= names {
-        return Entered::Full;
-    }
-    let from = start_of(ends, names);
-    if text.len() - from < size {
-        return Entered::Full;
-    }
-    texts::put(text, from, word, size);
-    ends[names] = (from + size) as u16;
-    terms[names] = n;
-    Entered::New(n)
-}
-
-// The number of the first `size` bytes of `word` as a text of a sort; entered where it has none yet.
-pub fn enter(
-    terms: &mut [u16],
-    ends: &mut [u16],
-    text: &mut [u8],
-    names: usize,
-    sort: u16,
-    word: &[u8],
-    size: usize,
-) -> Entered
-    requires { ⌜ Listing (namesLent terms ends text) names × (size ≤ length (now word)) ⌝ }
-    ensures { λ r. ⌜ Entering (namesBefore terms ends text) (namesAfter terms ends text) names sort (take size (now (word .entry))) r ⌝ }
-{
-    let found = number_for(terms, ends, text, names, sort, word, size);
-    match found {
-        Found::Number(n) => Entered::Listed(n),
-        Found::Missing(n) => add(terms, ends, text, names, n, word, size),
-    }
-}
-
-// As `add`, of a text whose bytes lie behind the last one already.
+// An entry put behind the last, where there is room for one; its bytes lie there already.
 pub fn add_lying(
     terms: &mut [u16],
     ends: &mut [u16],

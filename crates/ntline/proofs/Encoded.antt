@@ -19,11 +19,11 @@ use Rattle.ntline.proofs.Sound.{heard-says}
 
 -- ---- every class is of characters
 
-either : {P : Type 0} (a b : Bool) → (a || b) ≡ true → (a ≡ true → P) → (b ≡ true → P) → P
+pub either : {P : Type 0} (a b : Bool) → (a || b) ≡ true → (a ≡ true → P) → (b ≡ true → P) → P
 either true b e f g = f refl
 either false b e f g = g e
 
-low : (c : ℕ) → c ≤ 0xD7FF → isCharacter c ≡ true
+pub low : (c : ℕ) → c ≤ 0xD7FF → isCharacter c ≡ true
 unfolding isCharacter
 low c h = rw (le-leb 0 c (omega arith), le-leb c 0xD7FF h) refl
 
@@ -47,11 +47,11 @@ range-high lo hi c g h e =
     let low = leb-true lo c (both-left (leb lo c) (leb c hi) e) in
     high c (omega arith) (omega arith)
 
-white-char : (c : ℕ) → isWhite c ≡ true → isCharacter c ≡ true
+pub white-char : (c : ℕ) → isWhite c ≡ true → isCharacter c ≡ true
 unfolding isWhite
 white-char c e = either (eqb c 0x20) (eqb c 0x9) e (one c 0x20 (omega arith)) (one c 0x9 (omega arith))
 
-alpha-char : (c : ℕ) → isAlpha c ≡ true → isCharacter c ≡ true
+pub alpha-char : (c : ℕ) → isAlpha c ≡ true → isCharacter c ≡ true
 unfolding isAlpha
 alpha-char c e = either (within 0x61 0x7A c) (within 0x41 0x5A c) e (range 0x61 0x7A c (omega arith)) (range 0x41 0x5A c (omega arith))
 
@@ -59,7 +59,7 @@ digit-char : (c : ℕ) → isDigit c ≡ true → isCharacter c ≡ true
 unfolding isDigit
 digit-char c e = range 0x30 0x39 c (omega arith) e
 
-alnum-char : (c : ℕ) → isAlnum c ≡ true → isCharacter c ≡ true
+pub alnum-char : (c : ℕ) → isAlnum c ≡ true → isCharacter c ≡ true
 unfolding isAlnum
 alnum-char c e = either (isAlpha c) (isDigit c) e (alpha-char c) (digit-char c)
 
@@ -102,7 +102,7 @@ start-char c e =
     either (isBase c) (eqb c 0x5F || eqb c 0x3A) e (base-char c)
     (λ f. either (eqb c 0x5F) (eqb c 0x3A) f (one c 0x5F (omega arith)) (one c 0x3A (omega arith)))
 
-name-char : (c : ℕ) → isNameChar c ≡ true → isCharacter c ≡ true
+pub name-char : (c : ℕ) → isNameChar c ≡ true → isCharacter c ≡ true
 unfolding isNameChar
 name-char c e =
     either (isNameStart c) _ e (start-char c)
@@ -115,18 +115,18 @@ name-char c e =
     (range 0x300 0x36F c (omega arith)))
     (range 0x203F 0x2040 c (omega arith)))
 
-label-char : (c : ℕ) → isLabelStart c ≡ true → isCharacter c ≡ true
+pub label-char : (c : ℕ) → isLabelStart c ≡ true → isCharacter c ≡ true
 unfolding isLabelStart
 label-char c e = either (isNameStart c) (isDigit c) e (start-char c) (digit-char c)
 
 -- ---- every production is
 
-all-append : (xs ys : List ℕ) → AllCharacters xs → AllCharacters ys → AllCharacters (xs ++ ys)
+pub all-append : (xs ys : List ℕ) → AllCharacters xs → AllCharacters ys → AllCharacters (xs ++ ys)
 all-append [] ys a b = b
 all-append (x ∷ xs) ys a b = (a .0, all-append xs ys (a .1) b)
 
 -- a sign of the grammar
-sign : (c : ℕ) → c ≤ 0xD7FF → (cs : List ℕ) → AllCharacters cs → AllCharacters (c ∷ cs)
+pub sign : (c : ℕ) → c ≤ 0xD7FF → (cs : List ℕ) → AllCharacters cs → AllCharacters (c ∷ cs)
 sign c h cs a = (low c h, a)
 
 abbrev along : {xs ys : List ℕ} → xs ≡ ys → AllCharacters ys → AllCharacters xs
@@ -158,7 +158,7 @@ iri-chars-all grammar.IriChars.none = tt
 iri-chars-all (grammar.IriChars.raw {c = c} ok d) = (iri-character c ok, iri-chars-all d)
 iri-chars-all (grammar.IriChars.uchar {escape = e} {source = s} u ok d is) = along is (all-append e s (uchar-all u) (iri-chars-all d))
 
-iri-all : {source iri : List ℕ} → grammar.IRIREF source iri → AllCharacters source
+pub iri-all : {source iri : List ℕ} → grammar.IRIREF source iri → AllCharacters source
 iri-all (grammar.IRIREF.iriref {inside = inside} d abs is) =
     along is (sign 0x3C (omega arith) (inside ++ (0x3E ∷ [])) (all-append inside (0x3E ∷ []) (iri-chars-all d) (sign 0x3E (omega arith) [] tt)))
 
@@ -168,20 +168,20 @@ string-chars-all (grammar.StringChars.raw {c = c} ok d) = (string-character c ok
 string-chars-all (grammar.StringChars.echar {escape = e} {source = s} x d is) = along is (all-append e s (echar-all x) (string-chars-all d))
 string-chars-all (grammar.StringChars.uchar {escape = e} {source = s} u d is) = along is (all-append e s (uchar-all u) (string-chars-all d))
 
-string-all : {source chars : List ℕ} → grammar.STRING source chars → AllCharacters source
+pub string-all : {source chars : List ℕ} → grammar.STRING source chars → AllCharacters source
 string-all (grammar.STRING.string {inside = inside} d is) =
     along is (sign 0x22 (omega arith) (inside ++ (0x22 ∷ [])) (all-append inside (0x22 ∷ []) (string-chars-all d) (sign 0x22 (omega arith) [] tt)))
 
-label-end-all : {cs : List ℕ} → grammar.LabelEnd cs → AllCharacters cs
+pub label-end-all : {cs : List ℕ} → grammar.LabelEnd cs → AllCharacters cs
 label-end-all (grammar.LabelEnd.last {c = c} e) = (name-char c e, tt)
 label-end-all (grammar.LabelEnd.char {c = c} e d) = (name-char c e, label-end-all d)
 label-end-all (grammar.LabelEnd.dot {cs = cs} d) = sign 0x2E (omega arith) cs (label-end-all d)
 
-label-all : {cs : List ℕ} → grammar.Label cs → AllCharacters cs
+pub label-all : {cs : List ℕ} → grammar.Label cs → AllCharacters cs
 label-all (grammar.Label.one {c = c} e) = (label-char c e, tt)
 label-all (grammar.Label.longer {c = c} e d) = (label-char c e, label-end-all d)
 
-blank-all : {source label : List ℕ} → grammar.BLANK source label → AllCharacters source
+pub blank-all : {source label : List ℕ} → grammar.BLANK source label → AllCharacters source
 blank-all (grammar.BLANK.blank {label = label} d) = sign 0x5F (omega arith) (0x3A ∷ label) (sign 0x3A (omega arith) label (label-all d))
 
 subtags-all : {cs : List ℕ} → grammar.Subtags cs → AllCharacters cs
@@ -194,10 +194,10 @@ tag-rest-all grammar.Tag.none = tt
 tag-rest-all (grammar.Tag.letter {c = c} e d) = (alpha-char c e, tag-rest-all d)
 tag-rest-all (grammar.Tag.minus {c = c} {cs = cs} e d) = sign 0x2D (omega arith) (c ∷ cs) (alnum-char c e, subtags-all d)
 
-tag-all : {source tag : List ℕ} → grammar.LANGTAG source tag → AllCharacters source
+pub tag-all : {source tag : List ℕ} → grammar.LANGTAG source tag → AllCharacters source
 tag-all (grammar.LANGTAG.langtag {c = c} {cs = cs} e d) = sign 0x40 (omega arith) (c ∷ cs) (alpha-char c e, tag-rest-all d)
 
-white-all : {cs : List ℕ} → grammar.White cs → AllCharacters cs
+pub white-all : {cs : List ℕ} → grammar.White cs → AllCharacters cs
 white-all grammar.White.none = tt
 white-all (grammar.White.more {c = c} e d) = (white-char c e, white-all d)
 
@@ -209,7 +209,7 @@ comment-all : {cs : List ℕ} → grammar.Comment cs → AllCharacters cs
 comment-all grammar.Comment.none = tt
 comment-all (grammar.Comment.comment {cs = cs} d) = sign 0x23 (omega arith) cs (characters-all d)
 
-literal-all : {source : List ℕ} {t : grammar.Term} → grammar.Literal source t → AllCharacters source
+pub literal-all : {source : List ℕ} {t : grammar.Term} → grammar.Literal source t → AllCharacters source
 literal-all (grammar.Literal.bare d) = string-all d
 literal-all (grammar.Literal.with-tag {string = string} {space = space} {tag = tag} d w g is) =
     along is (all-append string (space ++ tag) (string-all d) (all-append space tag (white-all w) (tag-all g)))
@@ -226,12 +226,12 @@ subject-all (grammar.Subject.label d) = blank-all d
 predicate-all : {source : List ℕ} {t : grammar.Term} → grammar.Predicate source t → AllCharacters source
 predicate-all (grammar.Predicate.iri d) = iri-all d
 
-object-all : {source : List ℕ} {t : grammar.Term} → grammar.Object source t → AllCharacters source
+pub object-all : {source : List ℕ} {t : grammar.Term} → grammar.Object source t → AllCharacters source
 object-all (grammar.Object.iri d) = iri-all d
 object-all (grammar.Object.label d) = blank-all d
 object-all (grammar.Object.lit d) = literal-all d
 
-says-all : {line : List ℕ} {said : grammar.Said} → grammar.Says line said → AllCharacters line
+pub says-all : {line : List ℕ} {said : grammar.Said} → grammar.Says line said → AllCharacters line
 says-all (grammar.Says.empty-line (grammar.Empty.empty {space = space} {comment = comment} w k is)) = along is (all-append space comment (white-all w) (comment-all k))
 says-all (grammar.Says.triple-line (grammar.Triple.triple {front = front} {subject = subject} {between = between} {predicate = predicate} {behind = behind} {object = object} {before = before} {after = after} {comment = comment} w s x p y o b a k is)) =
     along is

@@ -144,23 +144,23 @@ module _ {w : List ℕ} (white : grammar.White w) where
 
 -- ---- what a source means
 
-up-to : (s rest : List ℕ) → upTo (s ++ rest) rest ≡ s
+pub up-to : (s rest : List ℕ) → upTo (s ++ rest) rest ≡ s
 unfolding upTo
 up-to s rest =
     let e : length (s ++ rest) - length rest ≡ length s = omega (arith, length-append s rest) in
     rw e (take-append-seam s rest)
 
-inner-is : (a z : ℕ) (mid : List ℕ) → inner (a ∷ (mid ++ (z ∷ []))) ≡ mid
+pub inner-is : (a z : ℕ) (mid : List ℕ) → inner (a ∷ (mid ++ (z ∷ []))) ≡ mid
 unfolding inner
 inner-is a z mid =
     let e : length (a ∷ (mid ++ (z ∷ []))) - 2 ≡ length mid = omega (arith, length-append mid (z ∷ [])) in
     rw e (take-append-seam mid (z ∷ []))
 
-iri-inner : {s iri : List ℕ} → grammar.IRIREF s iri → resolved 0 0 (inner s) ≡ iri
+pub iri-inner : {s iri : List ℕ} → grammar.IRIREF s iri → resolved 0 0 (inner s) ≡ iri
 iri-inner (grammar.IRIREF.iriref {inside = inside} d abs is) =
     ap (λ (l : List ℕ). resolved 0 0 (inner l)) is ∙ ap (resolved 0 0) (inner-is 0x3C 0x3E inside) ∙ iri-resolved d
 
-string-inner : {s chars : List ℕ} → grammar.STRING s chars → resolved 0 0 (inner s) ≡ chars
+pub string-inner : {s chars : List ℕ} → grammar.STRING s chars → resolved 0 0 (inner s) ≡ chars
 string-inner (grammar.STRING.string {inside = inside} d is) =
     ap (λ (l : List ℕ). resolved 0 0 (inner l)) is ∙ ap (resolved 0 0) (inner-is 0x22 0x22 inside) ∙ string-resolved d
 
@@ -182,7 +182,7 @@ meant-literal {s = s} {chars = chars} d behind tail sort e =
     ∙ ap (λ (l : List ℕ). grammar.Term.literal l (markOf (spaced (upTo behind tail)))) (string-inner d)
     ∙ ap (grammar.Term.literal chars) e
 
-spaced-nil : spaced [] ≡ []
+pub spaced-nil : spaced [] ≡ []
 unfolding spaced tokenOf munched
 spaced-nil = refl
 

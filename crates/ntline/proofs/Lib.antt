@@ -10,6 +10,7 @@ pub mod Marked
 pub mod Strung
 pub mod Worded
 pub mod Tokens
+pub mod Passing
 pub mod Spans
 pub mod Lining
 pub mod Saying

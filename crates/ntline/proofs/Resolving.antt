@@ -29,13 +29,13 @@ resolved-law left value h rest some early = by-part (eqb (fedBy left value h .ou
     by-part true = refl
     by-part false = refl
 
-uchar-resolved : {escape : List ℕ} {c : ℕ} → UCHAR escape c → (rest : List ℕ) → resolved 0 0 (escape ++ rest) ≡ c ∷ resolved 0 0 rest
+pub uchar-resolved : {escape : List ℕ} {c : ℕ} → UCHAR escape c → (rest : List ℕ) → resolved 0 0 (escape ++ rest) ≡ c ∷ resolved 0 0 rest
 unfolding resolved fedBy openedBy
 uchar-resolved (UCHAR.short {hs = hs} d char) rest = digits-given resolved gives resolved-law d (omega arith) char rest
 uchar-resolved (UCHAR.long {hs = hs} d char) rest = digits-given resolved gives resolved-law d (omega arith) char rest
 
 -- a character that is no backslash, by itself
-raw-resolved : (c : ℕ) (rest : List ℕ) → eqb c 0x5C ≡ false → isCharacter c ≡ true → resolved 0 0 (c ∷ rest) ≡ c ∷ resolved 0 0 rest
+pub raw-resolved : (c : ℕ) (rest : List ℕ) → eqb c 0x5C ≡ false → isCharacter c ≡ true → resolved 0 0 (c ∷ rest) ≡ c ∷ resolved 0 0 rest
 unfolding resolved fedBy
 raw-resolved c rest plain char = rw (plain, not-part c char, not-part c char) refl
 
@@ -63,7 +63,7 @@ iri-resolved (IriChars.raw {c = c} {source = s} ok d) =
 iri-resolved (IriChars.uchar {c = c} {escape = e} {source = s} u ok d is) =
     ap (resolved 0 0) is ∙ uchar-resolved u s ∙ ap (λ (l : List ℕ). c ∷ l) (iri-resolved d)
 
-echar-resolved : {escape : List ℕ} {c : ℕ} → ECHAR escape c → (rest : List ℕ) → resolved 0 0 (escape ++ rest) ≡ c ∷ resolved 0 0 rest
+pub echar-resolved : {escape : List ℕ} {c : ℕ} → ECHAR escape c → (rest : List ℕ) → resolved 0 0 (escape ++ rest) ≡ c ∷ resolved 0 0 rest
 unfolding resolved fedBy openedBy echarOf
 echar-resolved ECHAR.tab rest = refl
 echar-resolved ECHAR.backspace rest = refl

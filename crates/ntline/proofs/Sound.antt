@@ -16,12 +16,12 @@ use Rattle.ntline.proofs.Hearing.{meant-name, meant-blank, meant-litera
 
 -- ---- white space, and what stands behind it
 
-record Spaced (xs : List ℕ) : Type 0 where
-  space : List ℕ
-  white : grammar.White space
-  parts : xs ≡ space ++ spaced xs
+pub record Spaced (xs : List ℕ) : Type 0 where
+  pub space : List ℕ
+  pub white : grammar.White space
+  pub parts : xs ≡ space ++ spaced xs
 
-spaced-sound : (xs : List ℕ) → Spaced xs
+pub spaced-sound : (xs : List ℕ) → Spaced xs
 unfolding spaced
 spaced-sound xs = which (eqb (tokenOf xs .kind) 1) refl
   where
@@ -32,15 +32,15 @@ spaced-sound xs = which (eqb (tokenOf xs .kind) 1) refl
     which false e = record { space = []; white = grammar.White.none; parts = rw e refl }
 
 -- a terminal of a kind behind white space
-record Behind (xs : List ℕ) (kind : ℕ) : Type 0 where
-  space : List ℕ
-  white : grammar.White space
-  front : List ℕ
-  terminal : Rattle.ntline.proofs.Worded.Terminal front kind
-  parts : xs ≡ space ++ (front ++ tokenOf (spaced xs) .rest)
-  there : spaced xs ≡ front ++ tokenOf (spaced xs) .rest
+pub record Behind (xs : List ℕ) (kind : ℕ) : Type 0 where
+  pub space : List ℕ
+  pub white : grammar.White space
+  pub front : List ℕ
+  pub terminal : Rattle.ntline.proofs.Worded.Terminal front kind
+  pub parts : xs ≡ space ++ (front ++ tokenOf (spaced xs) .rest)
+  pub there : spaced xs ≡ front ++ tokenOf (spaced xs) .rest
 
-behind-sound : (xs : List ℕ) (kind : ℕ) → tokenOf (spaced xs) .kind ≡ kind → (kind ≡ 0 → ⊥) → Behind xs kind
+pub behind-sound : (xs : List ℕ) (kind : ℕ) → tokenOf (spaced xs) .kind ≡ kind → (kind ≡ 0 → ⊥) → Behind xs kind
 behind-sound xs kind e some =
     let w = spaced-sound xs in
     let s = token-sound (spaced xs) kind e some in
@@ -56,17 +56,17 @@ behind-sound xs kind e some =
 -- ---- terms
 
 -- a term at the front: white space, the object that the grammar has, and what is left
-record TermThere (cs : List ℕ) (s : Source) : Type 0 where
-  space : List ℕ
-  white : grammar.White space
-  object : List ℕ
-  term : grammar.Term
-  has : grammar.Object object term
-  parts : cs ≡ space ++ (object ++ s .tail)
-  meant : meantBy s ≡ term
+pub record TermThere (cs : List ℕ) (s : Source) : Type 0 where
+  pub space : List ℕ
+  pub white : grammar.White space
+  pub object : List ℕ
+  pub term : grammar.Term
+  pub has : grammar.Object object term
+  pub parts : cs ≡ space ++ (object ++ s .tail)
+  pub meant : meantBy s ≡ term
   -- what it is where it has to be more
-  subject : s .sort ≤ 1 → grammar.Subject object term
-  predicate : s .sort ≡ 0 → grammar.Predicate object term
+  pub subject : s .sort ≤ 1 → grammar.Subject object term
+  pub predicate : s .sort ≡ 0 → grammar.Predicate object term
 
 iri-there : (cs : List ℕ) → tokenOf (spaced cs) .kind ≡ 7 → TermThere cs (sourceOf cs)
 iri-there cs e =
@@ -191,7 +191,7 @@ module _ (cs : List ℕ) (e : tokenOf (spaced cs) .kind ≡ 8) where
           absurd (omega (arith, small, type-missing (eqb-true (tokenOf (spaced rest) .kind) 3 q) (eqb-false (tokenOf (spaced (tokenOf (spaced rest) .rest)) .kind) 7 r)))
       which false p false q z r = bare-there (eqb-false (tokenOf (spaced rest) .kind) 6 p) (eqb-false (tokenOf (spaced rest) .kind) 3 q)
 
-term-there : (cs : List ℕ) → sourceOf cs .sort ≤ 2 → TermThere cs (sourceOf cs)
+pub term-there : (cs : List ℕ) → sourceOf cs .sort ≤ 2 → TermThere cs (sourceOf cs)
 term-there cs small = which (eqb (tokenOf (spaced cs) .kind) 7) refl (eqb (tokenOf (spaced cs) .kind) 5) refl (eqb (tokenOf (spaced cs) .kind) 8) refl
   where
     which : (x : Bool) → eqb (tokenOf (spaced cs) .kind) 7 ≡ x → (y : Bool) → eqb (tokenOf (spaced cs) .kind) 5 ≡ y →
@@ -213,7 +213,7 @@ record Ended (cs : List ℕ) : Type 0 where
   has : grammar.Comment comment
   parts : cs ≡ space ++ comment
 
-is-nil : (cs : List ℕ) → isNil cs ≡ true → cs ≡ []
+pub is-nil : (cs : List ℕ) → isNil cs ≡ true → cs ≡ []
 is-nil [] e = refl
 is-nil (c ∷ cs) e = absurd (false≢true e)
 

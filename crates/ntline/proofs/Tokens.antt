@@ -12,7 +12,7 @@ use Rattle.utf8.proofs.Texts.{chars-nil}
 use Rattle.ntline.specs.declared.lexing.State.{State}
 use Rattle.ntline.specs.declared.lexing.State.the-variants.{Start, Dead, White, Dot, Hat, Hats, Remark, Under, Colon, Label, Dots, At, Letters, Minus, Alnums, Iri, IriEnd, Quoted, QuotedEnd}
 use Rattle.ntline.specs.Lexing.{step, kindOf, isDead, Token, tokenIs, laterKind, laterRest, munched, tokenOf}
-use Rattle.ntline.specs.Inner.{TokenAt}
+use Rattle.ntline.specs.Inner.{TokenAt, RunTo}
 use Rattle.ntline.proofs.Munching.{munched-dead}
 
 pub record TokenLoop (b : List ℕ) (at end : ℕ) (state : State) (kind to i : ℕ) : Type 0 where
@@ -114,3 +114,12 @@ module _ (b : List ℕ) (at end : ℕ) where
       let none : seen b i end ≡ [] = ap (λ (n : ℕ). charsOf (slice n end b)) e ∙ ap charsOf (slice-empty end b) ∙ chars-nil in
       told kind to (l .later) (l .within)
       (l .same ∙ ap (munched state kind (seen b to end)) none ∙ munched-over state kind (seen b to end))
+
+  pub loop-passes : (state : State) (kind to i j : ℕ) → TokenLoop b at end state kind to i → RunTo state b i end j → TokenLoop b at end state kind to j
+  loop-passes state kind to i j l r = record {
+    later = l .later;
+    within = l .within;
+    gone = omega (arith, l .gone, r .later);
+    inside = r .within;
+    same = l .same ∙ r .same kind (seen b to end);
+  }

@@ -168,7 +168,7 @@ kind-of-under : kindOf Under ≡ 0
 unfolding kindOf
 kind-of-under = refl
 
-colon-sound : (cs : List ℕ) (kind : ℕ) → Closing Colon cs kind → (kind ≡ 5) × grammar.Label cs
+pub colon-sound : (cs : List ℕ) (kind : ℕ) → Closing Colon cs kind → (kind ≡ 5) × grammar.Label cs
 colon-sound [] kind w = absurd (closing-nil w kind-of-colon)
 colon-sound (c ∷ cs) kind w = which (isLabelStart c) refl
   where

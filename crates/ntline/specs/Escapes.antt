@@ -43,11 +43,12 @@ shifted value digit = cond (leb value 0x10FFFF) (cond (leb digit 15) (value * 16
 unfoldable pub hexedBy : ℕ → ℕ → ℕ → Fed
 hexedBy left value c = cond (isHex c) (reckoned left (shifted value (hexValue c))) (fed 0 0 bad)
 
+-- outside an escape: a character stands for itself, or a backslash begins one
+abbrev pub outsideBy : ℕ → Fed
+outsideBy c = cond (eqb c 0x5C) (fed 9 0 part) (fed 0 0 (cond (eqb c part) bad c))
+
 unfoldable pub fedBy : ℕ → ℕ → ℕ → Fed
-fedBy left value c =
-    cond (eqb left 0)
-    (cond (eqb c 0x5C) (fed 9 0 part) (fed 0 0 (cond (eqb c part) bad c)))
-    (cond (eqb left 9) (openedBy c) (hexedBy left value c))
+fedBy left value c = cond (eqb left 0) (outsideBy c) (cond (eqb left 9) (openedBy c) (hexedBy left value c))
 
 -- what is given, if anything, before the rest
 abbrev pub given : ℕ → List ℕ → List ℕ

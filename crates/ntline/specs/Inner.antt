@@ -4,10 +4,17 @@ use mathlib.Core.List.{List}
 use Prim.Native.Nat.{ℕ, _≤_}
 use lib.ListN.{length}
 use Rattle.utf8.specs.Texts.{seen}
+use Rattle.ntline.specs.declared.lexing.State.{State}
 use Rattle.ntline.specs.declared.lines.Span.{Span}
 use Rattle.ntline.specs.declared.lines.Line.{Line}
-use Rattle.ntline.specs.Lexing.{tokenOf}
+use Rattle.ntline.specs.Lexing.{munched, tokenOf}
 use Rattle.ntline.specs.Lines.{Source, spaced, typedOf, literalOf, sourceOf, objectOf, predicateOf, subjectOf, SpanOf, LineOf}
+
+-- from one position up to another nothing changes: the state stays, and no terminal ends
+pub record RunTo (s : State) (b : List ℕ) (at end to : ℕ) : Type 0 where
+  pub later : at ≤ to
+  pub within : to ≤ end
+  pub same : (kind : ℕ) (rest : List ℕ) → munched s kind rest (seen b at end) ≡ munched s kind rest (seen b to end)
 
 -- the terminal at a position
 pub record TokenAt (b : List ℕ) (at end kind to : ℕ) : Type 0 where

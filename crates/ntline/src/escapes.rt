@@ -3,7 +3,7 @@ ghost use mathlib.Core.Path.{_≡_};
 ghost use Prim.Native.Nat.{_-_};
 ghost use mathlib.Core.Bool.{cond};
 ghost use Rattle.ntline.specs.Classes.{hexValue};
-ghost use Rattle.ntline.specs.Escapes.{part, fed, echarOf, openedBy, reckoned, shifted, hexedBy, fedBy};
+ghost use Rattle.ntline.specs.Escapes.{part, fed, echarOf, openedBy, reckoned, shifted, hexedBy, outsideBy, fedBy};
 use crate::classes::between;
 use crate::classes::is_character;
 use crate::classes::is_digit;
@@ -119,12 +119,28 @@ fn hexed(left: u32, value: u32, c: u32) -> Fed
     pick_fed(is_hex(c), whole, gives(BAD))
 }
 
+// A character outside an escape: it stands for itself, or a backslash begins one.
+fn outside(c: u32) -> Fed
+    ensures { λ r. ⌜ r ≡ outsideBy c ⌝ }
+{
+    if c == 0x5C {
+        return goes_on(BACKSLASH, 0);
+    }
+    if c == PART {
+        return gives(BAD);
+    }
+    gives(c)
+}
+
 // One character more.
 pub fn feed(left: u32, value: u32, c: u32) -> Fed
     ensures { λ r. ⌜ r ≡ fedBy left value c ⌝ }
 {
-    let itself = choose(c == PART, BAD, c);
-    let raw = pick_fed(c == 0x5C, goes_on(BACKSLASH, 0), gives(itself));
-    let escape = pick_fed(left == BACKSLASH, opened(c), hexed(left, value, c));
-    pick_fed(left == 0, raw, escape)
+    if left == 0 {
+        return outside(c);
+    }
+    if left == BACKSLASH {
+        return opened(c);
+    }
+    hexed(left, value, c)
 }

@@ -6,7 +6,7 @@ ghost use lib.ListN.{length};
 ghost use lib.Dec.{eqb};
 ghost use Rattle.ntline.specs.declared.lexing.State.the-variants.{Dead, Letters, Alnums};
 ghost use Rattle.ntline.specs.Lexing.{schemed, iriGoes, inIri, quotedGoes, inQuoted, begun, inLabel, step, kindOf, isDead, laterKind};
-ghost use Rattle.ntline.specs.Inner.{TokenAt};
+ghost use Rattle.ntline.specs.Inner.{TokenAt, RunTo};
 use crate::classes::is_alnum;
 use crate::classes::is_alpha;
 use crate::classes::is_character;
@@ -20,6 +20,8 @@ use crate::escapes::Fed;
 use crate::escapes::PART;
 use crate::escapes::choose;
 use crate::escapes::feed;
+use crate::runs::iri_run;
+use crate::runs::string_run;
 use utf8::see;
 
 // Where in a terminal a line is read.
@@ -258,6 +260,28 @@ fn later_to(new: u8, here: usize, old: usize) -> usize
     if new == NONE { old } else { here }
 }
 
+// Behind the bytes that change nothing of a state.
+fn pass(b: &[u8], at: usize, end: usize, s: State) -> usize
+    requires { ⌜ (at ≤ end) × (end ≤ length (now b)) ⌝ }
+    ensures { λ r. ⌜ RunTo s (now (b .entry)) at end r ⌝ }
+{
+    match s {
+        State::Iri(scheme, left, value) => {
+            if (scheme == 2) & ((left == 0) & (value == 0)) {
+                return iri_run(b, at, end);
+            }
+            at
+        }
+        State::Quoted(left, value) => {
+            if (left == 0) & (value == 0) {
+                return string_run(b, at, end);
+            }
+            at
+        }
+        _ => at,
+    }
+}
+
 // The longest terminal at a position; NONE, and the position, where there is none.
 pub fn token(b: &[u8], at: usize, end: usize) -> Terminal
     requires { ⌜ (at ≤ end) × (end ≤ length (now b)) ⌝ }
@@ -277,7 +301,7 @@ pub fn token(b: &[u8], at: usize, end: usize) -> Terminal
         let here = kind_of(state);
         kind = later_kind(here, kind);
         to = later_to(here, next, to);
-        i = next;
+        i = pass(b, next, end, state);
     }
     Terminal { kind, to }
 }

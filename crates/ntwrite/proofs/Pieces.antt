@@ -103,34 +103,38 @@ module _ (es : List Entry) (n : ℕ) where
   pub size-literal : 2 ≤ sortOf n → (r : ℕ) → r ≡ length (textOf es n) → r ≤ 32768 → (r ≡ length (termBytes es n)) × (r ≤ 32770)
   size-literal h r e k = (e ∙ ap length (sym (literal-is h)), omega arith)
 
-  module _ (b a c d : List ℕ) (at size : ℕ) (fits : at + length (termBytes es n) ≤ length b) (sized : size ≡ length (textOf es n)) where
-    pub name-laid : sortOf n ≡ 0 → a ≡ set b at 60 → c ≡ written a (at + 1) (textOf es n) → d ≡ set c (at + 1 + size) 62 → d ≡ written b at (termBytes es n)
-    name-laid e ea ec ed =
+  module _ (b a c d : List ℕ) (at end : ℕ) (fits : at + length (termBytes es n) ≤ length b) where
+    pub name-laid : sortOf n ≡ 0 → end ≡ at + 1 + length (textOf es n) → a ≡ set b at 60 → c ≡ written a (at + 1) (textOf es n) → d ≡ set c end 62
+        → (d ≡ written b at (termBytes es n)) × (end + 1 ≡ at + length (termBytes es n))
+    name-laid e ends ea ec ed =
         let long = ap length (name-is e) in
+        let size = length (textOf es n) in
         let p = length-append ((60 ∷ []) ++ textOf es n) (62 ∷ []) in
         let q = length-append (60 ∷ []) (textOf es n) in
         let one : a ≡ written b at (60 ∷ []) = ea ∙ written-one b at 60 (omega arith) in
         let two : c ≡ written b at ((60 ∷ []) ++ textOf es n) = written-both b a c at 1 (60 ∷ []) (textOf es n) refl (omega arith) one ec in
         let same : length c ≡ length b = ap length two ∙ length-written b at ((60 ∷ []) ++ textOf es n) (omega arith) in
-        let last : d ≡ written c (at + (1 + size)) (62 ∷ []) = ed ∙ written-one c (at + 1 + size) 62 (omega arith) ∙ ap (λ (k : ℕ). written c k (62 ∷ [])) (add-assoc at 1 size) in
-        written-both b c d at (1 + size) ((60 ∷ []) ++ textOf es n) (62 ∷ []) (omega arith) (omega arith) two last ∙ ap (written b at) (sym (name-is e))
+        let last : d ≡ written c (at + (1 + size)) (62 ∷ []) = ed ∙ written-one c end 62 (omega arith) ∙ ap (λ (k : ℕ). written c k (62 ∷ [])) (ends ∙ add-assoc at 1 size) in
+        (written-both b c d at (1 + size) ((60 ∷ []) ++ textOf es n) (62 ∷ []) (omega arith) (omega arith) two last ∙ ap (written b at) (sym (name-is e)), omega arith)
 
-    pub blank-laid : sortOf n ≡ 1 → a ≡ written b at (95 ∷ 58 ∷ []) → c ≡ written a (at + 2) (textOf es n) → c ≡ written b at (termBytes es n)
-    blank-laid e ea ec =
+    pub blank-laid : sortOf n ≡ 1 → end ≡ at + 2 + length (textOf es n) → a ≡ written b at (95 ∷ 58 ∷ []) → c ≡ written a (at + 2) (textOf es n)
+        → (c ≡ written b at (termBytes es n)) × (end ≡ at + length (termBytes es n))
+    blank-laid e ends ea ec =
         let long = ap length (blank-is e) in
         let q = length-append (95 ∷ 58 ∷ []) (textOf es n) in
-        written-both b a c at 2 (95 ∷ 58 ∷ []) (textOf es n) refl (omega arith) ea ec ∙ ap (written b at) (sym (blank-is e))
+        (written-both b a c at 2 (95 ∷ 58 ∷ []) (textOf es n) refl (omega arith) ea ec ∙ ap (written b at) (sym (blank-is e)), omega arith)
+
+    pub literal-laid : 2 ≤ sortOf n → end ≡ at + length (textOf es n) → a ≡ written b at (textOf es n)
+        → (a ≡ written b at (termBytes es n)) × (end ≡ at + length (termBytes es n))
+    literal-laid h ends ea = (ea ∙ ap (written b at) (sym (literal-is h)), ends ∙ ap (λ (t : List ℕ). at + length t) (sym (literal-is h)))
 
   -- and the blank behind it
-  pub part-laid : (b c d : List ℕ) (at size : ℕ) → at + length (partBytes es n) ≤ length b → size ≡ length (termBytes es n)
-      → c ≡ written b at (termBytes es n) → d ≡ set c (at + size) 32 → d ≡ written b at (partBytes es n)
-  part-laid b c d at size fits sized ec ed =
+  pub part-laid : (b c d : List ℕ) (at end : ℕ) → at + length (partBytes es n) ≤ length b → end ≡ at + length (termBytes es n)
+      → c ≡ written b at (termBytes es n) → d ≡ set c end 32 → (d ≡ written b at (partBytes es n)) × (end + 1 ≡ at + length (partBytes es n))
+  part-laid b c d at end fits ends ec ed =
       let long = length-append (termBytes es n) (32 ∷ []) in
       let same : length c ≡ length b = ap length ec ∙ length-written b at (termBytes es n) (omega arith) in
-      written-both b c d at size (termBytes es n) (32 ∷ []) (sym sized) (omega arith) ec (ed ∙ written-one c (at + size) 32 (omega arith))
-
-  pub part-size : (at size : ℕ) → size ≡ length (termBytes es n) → at + size + 1 ≡ at + length (partBytes es n)
-  part-size at size e = let long = length-append (termBytes es n) (32 ∷ []) in omega arith
+      (written-both b c d at (length (termBytes es n)) (termBytes es n) (32 ∷ []) refl (omega arith) ec (ed ∙ written-one c end 32 (omega arith) ∙ ap (λ (k : ℕ). written c k (32 ∷ [])) ends), omega arith)
 
 -- ---- a line
 
@@ -172,3 +176,6 @@ module _ (es : List Entry) (s p o : ℕ) where
         let d = length-append (partBytes es s ++ partBytes es p) (partBytes es o) in
         let e : last ≡ at + length (partBytes es s ++ partBytes es p ++ partBytes es o) = omega arith in
         written-both b z w at (length (partBytes es s ++ partBytes es p ++ partBytes es o)) (partBytes es s ++ partBytes es p ++ partBytes es o) (46 ∷ 10 ∷ []) refl (omega arith) (first-three ey ez) (rw (← e) ew)
+
+    pub line-end : last + 2 ≡ at + length (lineBytes es s p o)
+    line-end = let l = line-long in omega arith

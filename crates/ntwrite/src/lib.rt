@@ -33,6 +33,7 @@ fn text_size(terms: &[u16], ends: &[u16], text: &[u8], names: usize, n: u16) -> 
     span.to - span.from
 }
 
+// A text laid into `out` from `at` on; where it ends.
 fn put_text(
     out: &mut [u8],
     at: usize,
@@ -41,18 +42,19 @@ fn put_text(
     text: &[u8],
     names: usize,
     n: u16,
-)
+) -> usize
     requires { ⌜ Fit (namesLent terms ends text) names × (at + length (textOf (entriesOf (namesLent terms ends text) names) n) ≤ length (now out)) ⌝ }
-    ensures { λ _. ⌜ now (out .exit) ≡ written (now (out .entry)) at (textOf (entriesOf (namesBefore terms ends text) names) n) ⌝ }
+    ensures { λ r. ⌜ (now (out .exit) ≡ written (now (out .entry)) at (textOf (entriesOf (namesBefore terms ends text) names) n)) × (r ≡ at + length (textOf (entriesOf (namesBefore terms ends text) names) n)) ⌝ }
 {
     if n < names::five::NONE {
         names::five::put_five(out, at, n);
-        return;
+        return at + names::five::size_of(n);
     }
     let span = names::find::text_of(terms, ends, text, names, n);
     let from = span.from;
-    let to = span.to;
-    names::texts::put(out, at, &text[from..], to - from);
+    let size = span.to - from;
+    names::texts::put(out, at, &text[from..], size);
+    at + size
 }
 
 // How many bytes a term takes.
@@ -67,6 +69,7 @@ pub fn term_size(terms: &[u16], ends: &[u16], text: &[u8], names: usize, n: u16)
     size
 }
 
+// A term laid into `out` from `at` on; where it ends.
 fn put_term(
     out: &mut [u8],
     at: usize,
@@ -75,24 +78,22 @@ fn put_term(
     text: &[u8],
     names: usize,
     n: u16,
-)
+) -> usize
     requires { ⌜ Fit (namesLent terms ends text) names × (at + length (termBytes (entriesOf (namesLent terms ends text) names) n) ≤ length (now out)) ⌝ }
-    ensures { λ _. ⌜ now (out .exit) ≡ written (now (out .entry)) at (termBytes (entriesOf (namesBefore terms ends text) names) n) ⌝ }
+    ensures { λ r. ⌜ (now (out .exit) ≡ written (now (out .entry)) at (termBytes (entriesOf (namesBefore terms ends text) names) n)) × (r ≡ at + length (termBytes (entriesOf (namesBefore terms ends text) names) n)) ⌝ }
 {
     let sort = term::sort_of(n);
     if sort == term::NAME {
-        let size = text_size(terms, ends, text, names, n);
         out[at] = OPENS;
-        put_text(out, at + 1, terms, ends, text, names, n);
-        out[at + 1 + size] = CLOSES;
-        return;
+        let end = put_text(out, at + 1, terms, ends, text, names, n);
+        out[end] = CLOSES;
+        return end + 1;
     }
     if sort == term::BLANK {
         field::put_pair(out, at, UNDERSCORE, COLON);
-        put_text(out, at + 2, terms, ends, text, names, n);
-        return;
+        return put_text(out, at + 2, terms, ends, text, names, n);
     }
-    put_text(out, at, terms, ends, text, names, n);
+    put_text(out, at, terms, ends, text, names, n)
 }
 
 // A term and the blank behind it; where the next begins.
@@ -108,10 +109,9 @@ fn put_part(
     requires { ⌜ Fit (namesLent terms ends text) names × (at + length (partBytes (entriesOf (namesLent terms ends text) names) n) ≤ length (now out)) ⌝ }
     ensures { λ r. ⌜ (now (out .exit) ≡ written (now (out .entry)) at (partBytes (entriesOf (namesBefore terms ends text) names) n)) × (r ≡ at + length (partBytes (entriesOf (namesBefore terms ends text) names) n)) ⌝ }
 {
-    let size = term_size(terms, ends, text, names, n);
-    put_term(out, at, terms, ends, text, names, n);
-    out[at + size] = BLANK;
-    at + size + 1
+    let end = put_term(out, at, terms, ends, text, names, n);
+    out[end] = BLANK;
+    end + 1
 }
 
 // How many bytes a row's line takes.
@@ -133,7 +133,7 @@ pub fn line_size(
     subject + predicate + object + 5
 }
 
-// A row's line laid into `out` from `at` on.
+// A row's line laid into `out` from `at` on; where the next begins.
 pub fn put_line(
     out: &mut [u8],
     at: usize,
@@ -144,12 +144,13 @@ pub fn put_line(
     s: u16,
     p: u16,
     o: u16,
-)
+) -> usize
     requires { ⌜ Fit (namesLent terms ends text) names × (at + length (lineBytes (entriesOf (namesLent terms ends text) names) s p o) ≤ length (now out)) ⌝ }
-    ensures { λ _. ⌜ now (out .exit) ≡ written (now (out .entry)) at (lineBytes (entriesOf (namesBefore terms ends text) names) s p o) ⌝ }
+    ensures { λ r. ⌜ (now (out .exit) ≡ written (now (out .entry)) at (lineBytes (entriesOf (namesBefore terms ends text) names) s p o)) × (r ≡ at + length (lineBytes (entriesOf (namesBefore terms ends text) names) s p o)) ⌝ }
 {
     let second = put_part(out, at, terms, ends, text, names, s);
     let third = put_part(out, second, terms, ends, text, names, p);
     let last = put_part(out, third, terms, ends, text, names, o);
     field::put_pair(out, last, DOT, LF);
+    last + 2
 }

@@ -2,3 +2,4 @@
 pub mod Exported
 pub mod ExportDetermined
 pub mod PublicConditionThree
+pub mod TriplesPlaced

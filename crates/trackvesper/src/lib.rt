@@ -1,4 +1,4 @@
-// Trackvesper: fitting books, what follows from them, questions about them, and the call for the tester's C host.
+// Trackvesper: fitting books, what follows from them, questions about them, makers' lists, and the calls for C hosts.
 // The calls below take anything and refuse by number and place; the README has the table of numbers.
 ghost use mathlib.Core.Path.{_≡_};
 ghost use Prim.Native.Nat.{_<_};
@@ -19,6 +19,11 @@ pub use book::write;
 // What follows from a table.
 pub use closing::CloseDone;
 pub use closing::close;
+// Makers' lists: N-Triples into a table and a names list, and back.
+pub use ntread::TriplesRead;
+pub use ntread::read_triples;
+pub use ntriples::TriplesWritten;
+pub use ntriples::write_triples;
 // Questions: checked and compiled into lent step records, and run from them; and both by one call, with records of its own.
 pub use machine::RunDone;
 pub use question::StepRecord;
@@ -26,6 +31,8 @@ pub use steplist::Filled;
 pub use steplist::ask;
 pub use steplist::compile;
 pub use steplist::run;
+
+mod triples;
 
 // What a number counts in a word that holds a length or place beside it.
 const A_NUMBER: u64 = 4294967296;

@@ -11,6 +11,9 @@ ghost use Rattle.book.specs.Writing.{Writing};
 ghost use Rattle.closing.specs.Closing.{Closing};
 ghost use Rattle.machine.specs.Running.{running, Ran};
 ghost use Rattle.steplist.specs.Filling.{Filling};
+ghost use Rattle.names.specs.Lent.{namesBefore, namesAfter};
+ghost use Rattle.ntread.specs.Reading.{ReadingTriples};
+ghost use Rattle.ntriples.specs.Writing.{WritingTriples};
 ghost use Rattle.trackvesper.specs.ClosedBook.{ClosedBook};
 use trackvesper::Filled;
 use trackvesper::RunDone;
@@ -164,4 +167,67 @@ pub extern "C" fn trial_run(
         terms,
         anns,
     )
+}
+
+// A makers' list read into a table and a names list.
+#[no_mangle]
+pub extern "C" fn trial_read_triples(
+    kind: u8,
+    a: u64,
+    file: &[u8],
+    subj: &mut [u16],
+    pred: &mut [u16],
+    obj: &mut [u16],
+    ann: &mut [u64],
+    terms: &mut [u16],
+    ends: &mut [u16],
+    text: &mut [u8],
+    place: &mut usize,
+    count: &mut usize,
+    names: &mut usize,
+) -> u8
+    ensures { λ r. ⌜ ReadingTriples kind a (now (file .entry)) (before subj pred obj ann) (after subj pred obj ann) (namesBefore terms ends text) (namesAfter terms ends text) r (now (place .exit)) (now (count .exit)) (now (names .exit)) ⌝ }
+{
+    let answer = trackvesper::read_triples(kind, a, file, subj, pred, obj, ann, terms, ends, text);
+    *place = answer.place;
+    *count = answer.count;
+    *names = answer.names;
+    answer.number
+}
+
+// A table written by a names list as a makers' list.
+#[no_mangle]
+pub extern "C" fn trial_write_triples(
+    kind: u8,
+    subj: &[u16],
+    pred: &[u16],
+    obj: &[u16],
+    ann: &[u64],
+    count: usize,
+    terms: &[u16],
+    ends: &[u16],
+    text: &[u8],
+    names: usize,
+    out: &mut [u8],
+    place: &mut usize,
+    size: &mut usize,
+) -> u8
+    ensures { λ r. ⌜ WritingTriples kind (before subj pred obj ann) count (namesBefore terms ends text) names (now (out .entry)) (now (out .exit)) r (now (place .exit)) (now (size .exit)) ⌝ }
+{
+    let answer = trackvesper::write_triples(
+        kind,
+        subj,
+        pred,
+        obj,
+        ann,
+        count,
+        terms,
+        ends,
+        text,
+        names,
+        out,
+    );
+    *place = answer.place;
+    *size = answer.size;
+    answer.number
 }

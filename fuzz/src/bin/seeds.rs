@@ -1,11 +1,12 @@
 //! Inputs to begin with, dealt by the model's generators: seeds TARGET FOLDER COUNT
 
+use fuzz::inputs;
 use std::path::Path;
 use trial::book;
 use trial::pattern::{AnnSlot, Pattern, Slot};
 use trial::question::{bytes_of, Part};
 use trial::random::counters::behind_length;
-use trial::random::{books, closings, counters, legal_kind, questions, Random};
+use trial::random::{books, closings, counters, files, legal_kind, lists, questions, Random};
 
 /// Any book at all, or one whose closure is of interest.
 fn a_book(random: &mut Random) -> Vec<u8> {
@@ -43,6 +44,16 @@ fn a_counter_input(random: &mut Random) -> Vec<u8> {
     bytes
 }
 
+/// A makers' list to read, with lanes for it.
+fn a_reading(random: &mut Random) -> Vec<u8> {
+    inputs::of_reading(&files::reading(random))
+}
+
+/// A table and a names list to write.
+fn a_writing(random: &mut Random) -> Vec<u8> {
+    inputs::of_writing(&lists::writing(random))
+}
+
 fn main() {
     let words: Vec<String> = std::env::args().collect();
     let [_, target, folder, count] = &words[..] else {
@@ -50,6 +61,8 @@ fn main() {
     };
     let deal = match target.as_str() {
         "exported" => an_exported_input,
+        "read_triples" => a_reading,
+        "write_triples" => a_writing,
         "counter" => a_counter_input,
         _ => a_book,
     };

@@ -7,6 +7,7 @@ use crate::records::{record_of, StepRecord};
 use crate::running::Running;
 use trial::book::{ReadOut, WriteOut};
 use trial::closing::CloseOut;
+use trial::ntriples::{self, Names};
 use trial::question::Compiled;
 use trial::steps::Ran;
 use trial::table::{Added, Lanes, Row, Verdict};
@@ -64,6 +65,18 @@ exports_over_lanes! {
         count: usize, out: *mut u8, out_len: usize, place: *mut usize, length: *mut usize
     ) -> u8;
     fn trial_close(kind: u8; mut; count: *mut usize, place: *mut usize) -> u8;
+    fn trial_read_triples(
+        kind: u8, a: u64, file: *const u8, file_len: usize; mut;
+        terms: *mut u16, terms_len: usize, ends: *mut u16, ends_len: usize,
+        text: *mut u8, text_len: usize,
+        place: *mut usize, count: *mut usize, names: *mut usize
+    ) -> u8;
+    fn trial_write_triples(
+        kind: u8; const;
+        count: usize, terms: *const u16, terms_len: usize, ends: *const u16, ends_len: usize,
+        text: *const u8, text_len: usize, names: usize, out: *mut u8, out_len: usize,
+        place: *mut usize, size: *mut usize
+    ) -> u8;
     fn trial_run(
         kind: u8; const;
         count: usize, records: *const StepRecord, records_len: usize, steps: usize, allowed: u32,
@@ -144,6 +157,46 @@ pub fn close(kind: u8, lanes: &mut Lanes, mut count: usize) -> CloseOut {
     let number =
         unsafe { over_lanes!(trial_close(kind; lanes as_mut_ptr; &mut count, &mut place)) };
     CloseOut { number: u32::from(number), place: place as u64, count }
+}
+
+/// Reads a makers' list into a table and a names list.
+pub fn read_triples(
+    kind: u8,
+    ann: u64,
+    file: &[u8],
+    lanes: &mut Lanes,
+    names: &mut Names,
+) -> ntriples::ReadOut {
+    let (mut place, mut count, mut listed) = (usize::MAX, usize::MAX, usize::MAX);
+    let Names { terms, ends, text } = names;
+    // SAFETY: the slices are live for the call, the lanes borrowed for it alone, and none overlap.
+    let number = unsafe {
+        over_lanes!(trial_read_triples(kind, ann, file.as_ptr(), file.len(); lanes as_mut_ptr;
+            terms.as_mut_ptr(), terms.len(), ends.as_mut_ptr(), ends.len(),
+            text.as_mut_ptr(), text.len(), &mut place, &mut count, &mut listed))
+    };
+    ntriples::ReadOut { number: u32::from(number), place: place as u64, count, names: listed }
+}
+
+/// Writes a table by the first `listed` entries of a names list.
+pub fn write_triples(
+    kind: u8,
+    lanes: &Lanes,
+    count: usize,
+    names: &Names,
+    listed: usize,
+    out: &mut [u8],
+) -> ntriples::WriteOut {
+    let (mut place, mut length) = (usize::MAX, usize::MAX);
+    let Names { terms, ends, text } = names;
+    // SAFETY: the slices are live for the call, the output borrowed for it alone, and none overlap.
+    let number = unsafe {
+        over_lanes!(trial_write_triples(kind; lanes as_ptr;
+            count, terms.as_ptr(), terms.len(), ends.as_ptr(), ends.len(),
+            text.as_ptr(), text.len(), listed, out.as_mut_ptr(), out.len(),
+            &mut place, &mut length))
+    };
+    ntriples::WriteOut { number: u32::from(number), place: place as u64, length }
 }
 
 pub fn close_book(book: &[u8], out: &mut [u8]) -> u64 {

@@ -9,8 +9,11 @@ pub mod asking;
 pub mod baseline;
 pub mod books;
 pub mod calls;
+pub mod catalogue;
 pub mod closings;
 pub mod difference;
+pub mod peers;
+pub mod plain_triples;
 pub mod process;
 pub mod questions;
 pub mod records;
@@ -18,8 +21,10 @@ pub mod running;
 pub mod runs;
 pub mod slow;
 pub mod stored;
+pub mod stored_lists;
 pub mod stored_questions;
 pub mod tables;
+pub mod triples;
 
 use difference::Difference;
 
@@ -27,11 +32,13 @@ use difference::Difference;
 pub type Case = fn(u64) -> Result<(), Difference>;
 
 /// Every kind of case, by name.
-pub const CASES: [(&str, Case); 9] = [
+pub const CASES: [(&str, Case); 11] = [
     ("check", tables::check),
     ("add", tables::add),
     ("read", books::read),
     ("write", books::write),
+    ("read triples", triples::read),
+    ("write triples", triples::write),
     ("close", closings::close),
     ("close book", closings::close_book),
     ("compile", questions::compile),

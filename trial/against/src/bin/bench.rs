@@ -2,15 +2,18 @@
 //! best of many, in microseconds.
 //!
 //! Closing stands beside a closure with hash maps, running beside a walk of the question's tree
-//! that scans the rows, reading and compiling beside the model. Rounds and rows drawn are those of
-//! the plainest way (every conclusion of every rule, round by round), which is what the proved
-//! closing does at most.
+//! that scans the rows, reading and compiling beside the model, makers' lists beside a reader and a
+//! writer with hash maps. Rounds and rows drawn are those of the plainest way (every conclusion of
+//! every rule, round by round), which is what the proved closing does at most.
 
 use against::running::Running;
 use against::stored_questions::{ann, con, holder, triple, var, BOTH, EITHER};
-use against::{asking, baseline, calls, records, slow};
+use against::{asking, baseline, calls, catalogue, plain_triples, records, slow};
 use std::hint::black_box;
+use std::path::Path;
+use std::process::{Command, Stdio};
 use std::time::Instant;
+use trial::ntriples::Names;
 use trial::steps::{Step, ANNS, MOST_ANSWERS, MOST_STEPS, TERMS};
 use trial::table::{self, Lanes, Row, Triple};
 use trial::term::{DOM, RANGE, SC, SP, TYPE};
@@ -173,7 +176,7 @@ fn two_joins() -> Vec<u8> {
 }
 
 fn ratio_line(name: &str, size: usize, proved: f64, plain: f64) {
-    println!("{name:28} {size:6} {proved:12.1} {plain:12.1} {:8.2}", proved / plain);
+    println!("{name:36} {size:6} {proved:12.1} {plain:12.1} {:8.2}", proved / plain);
 }
 
 fn measure_asking(name: &str, rows: u16, bytes: &[u8]) {
@@ -236,6 +239,85 @@ fn measure_compiling(name: &str, bytes: &[u8]) {
     ratio_line(name, bytes.len(), proved, plain);
 }
 
+/// Lanes and a list as long as they may be.
+fn most_room() -> (Lanes, Names) {
+    (Lanes::zero(1024), Names::zero(512, 32_768))
+}
+
+/// A maker's list read, and what was read written back.
+fn measure_triples(lines: usize, entries: usize) {
+    let file = catalogue::list(lines, entries);
+    let (kind, ann) = (1, u64::MAX);
+    let (mut lanes, mut names) = most_room();
+    let (mut plain_lanes, mut plain_names) = most_room();
+    let read = calls::read_triples(kind, ann, &file, &mut lanes, &mut names);
+    let plain = plain_triples::read(kind, ann, &file, &mut plain_lanes, &mut plain_names);
+    assert_eq!((read.number, read.count, read.names), (0, lines, entries));
+    assert_eq!((read, &lanes, &names), (plain, &plain_lanes, &plain_names));
+    let (mut out, mut plain_out) = (vec![0; 65_536], vec![0; 65_536]);
+    let (count, listed) = (read.count, read.names);
+    let written = calls::write_triples(kind, &lanes, count, &names, listed, &mut out);
+    let plain = plain_triples::write(kind, &lanes, count, &names, listed, &mut plain_out);
+    assert_eq!((written.number, written, &out), (0, plain, &plain_out));
+
+    let proved = best(|| {
+        black_box(calls::read_triples(kind, ann, black_box(&file), &mut lanes, &mut names));
+    });
+    let plain = best(|| {
+        let (lanes, names) = (&mut plain_lanes, &mut plain_names);
+        black_box(plain_triples::read(kind, ann, black_box(&file), lanes, names));
+    });
+    ratio_line(&format!("reading {lines} lines, {entries} names"), file.len(), proved, plain);
+    let proved = best(|| {
+        black_box(calls::write_triples(kind, &lanes, count, &names, listed, &mut out));
+    });
+    let plain = best(|| {
+        black_box(plain_triples::write(kind, &lanes, count, &names, listed, &mut plain_out));
+    });
+    ratio_line(&format!("writing {lines} lines, {entries} names"), written.length, proved, plain);
+}
+
+/// The best time of a process, if it can be started.
+fn process(program: &Path, words: &[&str], file: &Path) -> Option<f64> {
+    let run = || {
+        let mut command = Command::new(program);
+        command.args(words).arg(file).stdout(Stdio::null()).stderr(Stdio::null());
+        command.status()
+    };
+    if !run().ok()?.success() {
+        return None;
+    }
+    Some(best(|| {
+        let _ = run();
+    }))
+}
+
+/// Other readers of N-Triples as processes, where they are installed; `true` shows what a process
+/// costs by itself, and the C host does with the proved calls what they do.
+fn measure_processes(lines: usize, entries: usize) {
+    let file = catalogue::list(lines, entries);
+    let folder = Path::new(env!("CARGO_MANIFEST_DIR")).join("../../target");
+    let path = folder.join("bench.nt");
+    if std::fs::write(&path, &file).is_err() {
+        return;
+    }
+    let host = folder.join("host/triples");
+    let as_ntriples = ["-q", "-i", "ntriples", "-o", "ntriples"];
+    for (name, program, words) in [
+        ("true", Path::new("true"), &[][..]),
+        ("the C host", &host, &[]),
+        ("serdi", Path::new("serdi"), &as_ntriples[1..]),
+        ("rapper", Path::new("rapper"), &as_ntriples),
+    ] {
+        match process(program, words, &path) {
+            Some(time) => {
+                println!("{:36} {:6} {time:12.0}", format!("{name}, a process"), file.len())
+            }
+            None => println!("{name} is not there"),
+        }
+    }
+}
+
 fn main() {
     println!("table  kind  rows  closed  rounds   drawn   proved, us    plain, us    ratio");
     for kind in 1..=4 {
@@ -256,7 +338,7 @@ fn main() {
             }
         }
     }
-    println!("\nwhat                           size   proved, us    plain, us    ratio");
+    println!("\nwhat                                   size   proved, us    plain, us    ratio");
     for rows in [100, 300, 1000] {
         measure_asking("join on the subject", rows, &on_vans());
         measure_asking("join of all with all", rows, &all_with_all());
@@ -268,4 +350,9 @@ fn main() {
     }
     measure_compiling("compiling two parts", &on_vans());
     measure_compiling("compiling either", &two_joins());
+    for (lines, entries) in [(500, 400), (500, 200), (500, 100), (250, 400), (250, 200), (250, 100)]
+    {
+        measure_triples(lines, entries);
+    }
+    measure_processes(500, 400);
 }

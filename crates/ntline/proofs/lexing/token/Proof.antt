@@ -3,7 +3,7 @@ use mathlib.Core.Path.{sym, _∙_}
 use Prim.Native.Nat.{_-_}
 use native.Mathlib.Omega.{arith}
 use borrow.Author.Needs.{needs}
-use Rattle.ntline.proofs.Tokens.{TokenLoop, loop-start, loop-stops, loop-goes, loop-ends}
+use Rattle.ntline.proofs.Tokens.{TokenLoop, loop-start, loop-stops, loop-goes, loop-passes, loop-ends}
 use Rattle.ntline.proofs.lexing.token.Statement.{statement}
 use Rattle.ntline.proofs.lexing.token.Tie as tie
 
@@ -35,22 +35,32 @@ returns c =
     let the-if1 = c .if1 in
     loop-stops (the-args .b .now) (the-args .at) (the-args .end) _ _ _ _ _ _ _ (the-loop .inv) (the-see .ensures) (the-stepped .ensures) (sym (the-is-dead .ensures) ∙ the-if1 .taken)
 
+pass-requires : tie.Need-pass-requires Inv-loop μ-loop
+pass-requires c κs =
+    let the-see = c .before .before .before .before .before .before .see in
+    let the-pre = c .before .before .before .before .before .before .before .before .before .before .pre in
+    (the-see .ensures .within, the-pre .1)
+
 loop-less : tie.Need-loop-less Inv-loop μ-loop
 loop-less c =
-    let the-see = c .before .before .before .before .before .before .see in
-    let the-loop-test = c .before .before .before .before .before .before .before .loop-test in
-    omega (arith, the-see .ensures .later, the-see .ensures .within, the-loop-test .taken)
+    let the-see = c .before .before .before .before .before .before .before .see in
+    let the-pass = c .pass in
+    let the-loop-test = c .before .before .before .before .before .before .before .before .loop-test in
+    omega (arith, the-see .ensures .later, the-pass .ensures .later, the-pass .ensures .within, the-loop-test .taken)
 
 loop-again : tie.Need-loop-again Inv-loop μ-loop
 loop-again c =
-    let the-args = c .before .before .before .before .before .before .before .before .before .before .args in
-    let the-loop = c .before .before .before .before .before .before .before .before .loop in
-    let the-see = c .before .before .before .before .before .before .see in
-    let the-stepped = c .before .before .before .before .before .stepped in
-    let the-kind-of = c .before .before .kind-of in
-    let the-later-kind = c .before .later-kind in
-    let the-later-to = c .later-to in
-    loop-goes (the-args .b .now) (the-args .at) (the-args .end) _ _ _ _ _ _ _ _ _ _ (the-loop .inv) (the-see .ensures) (the-stepped .ensures) (the-kind-of .ensures) (the-later-kind .ensures) (the-later-to .ensures)
+    let the-args = c .before .before .before .before .before .before .before .before .before .before .before .args in
+    let the-loop = c .before .before .before .before .before .before .before .before .before .loop in
+    let the-see = c .before .before .before .before .before .before .before .see in
+    let the-stepped = c .before .before .before .before .before .before .stepped in
+    let the-kind-of = c .before .before .before .kind-of in
+    let the-later-kind = c .before .before .later-kind in
+    let the-later-to = c .before .later-to in
+    let the-pass = c .pass in
+    loop-passes (the-args .b .now) (the-args .at) (the-args .end) _ _ _ _ _
+    (loop-goes (the-args .b .now) (the-args .at) (the-args .end) _ _ _ _ _ _ _ _ _ _ (the-loop .inv) (the-see .ensures) (the-stepped .ensures) (the-kind-of .ensures) (the-later-kind .ensures) (the-later-to .ensures))
+    (the-pass .ensures)
 
 returns-2 : tie.Need-returns-2 Inv-loop μ-loop
 returns-2 c =
@@ -73,6 +83,7 @@ token-spec =
     (λ c κs. search needs)
     (λ c κs. search needs)
     (λ c κs. search needs)
+    pass-requires
     loop-less
     loop-again
     returns-2)
