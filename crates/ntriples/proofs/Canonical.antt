@@ -6,7 +6,8 @@ use Prim.Native.Nat.{ℕ, zero, suc, _+_, _≤_, _<_}
 use native.Mathlib.Omega.{arith}
 use lib.ListN.{length, length-append}
 use lib.Dec.{eqb, leb}
-use borrow.Author.Tests.{eqb-true, eqb-false, leb-true}
+use borrow.Author.Tests.{eqb-true, eqb-false, leb-true, not-false}
+use Rattle.ground.proofs.Bools.{neither}
 use Rattle.ground.specs.Lists.{tab}
 use Rattle.utf8.specs.Characters.{oneOctet, charBytes, textBytes}
 use Rattle.utf8.specs.Texts.{charsOf, AllCharacters}
@@ -241,17 +242,9 @@ rows-left es l i (suc n) ds e =
     which k p q true t here later = let f : i ≡ k = eqb-true i k t in rw f at here
     which k p q false t here later = let f = eqb-false i k t in later k (omega arith) (omega arith)
 
-or-false : (a b : Bool) → (a || b) ≡ false → (a ≡ false) × (b ≡ false)
-or-false true b e = (e, absurd (let z : _≡_ {A = ℕ} 0 1 = cc in omega arith))
-or-false false b e = (refl, e)
-
-not-false : (b : Bool) → not b ≡ false → b ≡ true
-not-false true e = refl
-not-false false e = sym e
-
 pub row-worded : (es : List Entry) (kind : ℕ) (r : Row) → LegalRow kind r → isUnwritable es r ≡ false → Worded es r
 row-worded es kind r legal e =
-    let a = or-false (eqb (sortOf (r .s)) 2) (not (hasText es (r .s) && (hasText es (r .p) && hasText es (r .o)))) e in
+    let a = neither (eqb (sortOf (r .s)) 2) (not (hasText es (r .s) && (hasText es (r .p) && hasText es (r .o)))) e in
     let b = both-true (hasText es (r .s)) (hasText es (r .p) && hasText es (r .o)) (not-false _ (a .1)) in
     let c = both-true (hasText es (r .p)) (hasText es (r .o)) (b .1) in
     let zero-sort : sortOf (r .p) ≡ 0 = eqb-true (sortOf (r .p)) 0 (legal .predicate) in

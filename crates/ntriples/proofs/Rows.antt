@@ -8,7 +8,7 @@ use native.Mathlib.Omega.{arith}
 use native.Mathlib.Decide.{decLt}
 use lib.ListN.{length, getD, take, drop, length-append, take-append-drop}
 use lib.Dec.{eqb}
-use borrow.Author.Tests.{eq-eqb, ne-eqb, le-ltb}
+use borrow.Author.Tests.{eq-eqb, ne-eqb, le-ltb, not-false}
 use Rattle.ground.specs.Lists.{tab}
 use Rattle.field.specs.Numbers.{written}
 use Rattle.field.proofs.Writing.{length-written, written-both}
@@ -36,10 +36,6 @@ listed-has-text l names n from to sort high s e r h =
 not-true : (b : Bool) → not b ≡ true → b ≡ false
 not-true true e = sym e
 not-true false e = refl
-
-not-false : (b : Bool) → not b ≡ false → b ≡ true
-not-false true e = refl
-not-false false e = sym e
 
 abbrev judged : Bool → Bool → Bool → Bool → Bool
 judged literal s p o = not (literal || not (s && (p && o)))

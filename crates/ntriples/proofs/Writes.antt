@@ -6,7 +6,8 @@ use Prim.Native.Nat.{ℕ, _+_, _≤_, _<_}
 use native.Mathlib.Omega.{arith}
 use lib.ListN.{length, drop}
 use lib.Dec.{eqb, ltb}
-use borrow.Author.Tests.{eqb-true, ne-eqb, lt-ltb, le-ltb, ltb-false}
+use borrow.Author.Tests.{eqb-true, ne-eqb, lt-ltb, le-ltb, ltb-false, not-false}
+use Rattle.ground.proofs.Bools.{neither}
 use Rattle.field.specs.Numbers.{written}
 use Rattle.term.specs.Refusal.{Check, refuse, verdict, done, first}
 use Rattle.term.specs.declared.refusal.Verdict.{Verdict}
@@ -23,19 +24,11 @@ use Rattle.ntriples.specs.declared.TriplesWritten.{TriplesWritten}
 use Rattle.ntriples.specs.Inner.{refusedDone, linesBytes, Judged, Lowest}
 use Rattle.ntriples.proofs.Rows.{file-is, lowest-stops, lowest-passes}
 
-or-false : (a b : Bool) → (a || b) ≡ false → (a ≡ false) × (b ≡ false)
-or-false true b e = (e, absurd (let z : _≡_ {A = ℕ} 0 1 = cc in omega arith))
-or-false false b e = (refl, e)
-
-not-false : (b : Bool) → not b ≡ false → b ≡ true
-not-false true e = refl
-not-false false e = sym e
-
 -- lanes of a list that 11 and 14 let pass
 pub list-fit : (n : NameLanes) (names : ℕ) → isUnfitList n ≡ false → names ≤ length (n .terms) → Fit n names
 list-fit n names e h =
-    let a = or-false (not (eqb (length (n .terms)) (length (n .ends)))) (ltb 512 (length (n .terms)) || ltb 32768 (length (n .text))) e in
-    let b = or-false (ltb 512 (length (n .terms))) (ltb 32768 (length (n .text))) (a .1) in
+    let a = neither (not (eqb (length (n .terms)) (length (n .ends)))) (ltb 512 (length (n .terms)) || ltb 32768 (length (n .text))) e in
+    let b = neither (ltb 512 (length (n .terms))) (ltb 32768 (length (n .text))) (a .1) in
     record {
       room = h;
       equal = sym (eqb-true (length (n .terms)) (length (n .ends)) (not-false (eqb (length (n .terms)) (length (n .ends))) (a .0)));

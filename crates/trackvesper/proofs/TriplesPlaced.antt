@@ -7,6 +7,7 @@ use native.Mathlib.Omega.{arith}
 use lib.Dec.{eqb, leb, ltb}
 use lib.ListN.{length}
 use borrow.Author.Tests.{eqb-true, eq-eqb, ne-eqb, leb-true, ltb-false, not-false}
+use Rattle.ground.proofs.Bools.{neither}
 use Rattle.term.specs.Refusal.{Check, refuse, first}
 use Rattle.term.specs.declared.refusal.Verdict.{Verdict}
 use Rattle.term.proofs.Firsts.{AllAt, at-append, number-split}
@@ -72,10 +73,6 @@ fit-rows l h =
     let c = both-true (eqb (length (l .ann)) (length (l .subj))) _ (b .1) in
     leb-true (length (l .subj)) 1024 (c .1)
 
-either-false : (t u : Bool) → t || u ≡ false → (t ≡ false) × (u ≡ false)
-either-false true u h = absurd (let z : true ≡ false = h in let y : _≡_ {A = ℕ} 0 1 = cc in omega arith)
-either-false false u h = (refl, h)
-
 -- ---- writing: a row's place, or 0
 
 pub write-placed : (kind : ℕ) (l : Lanes) (count : ℕ) (n : NameLanes) (names : ℕ) (out : List ℕ) → first (writeChecks kind l count n names out) .place ≤ 1024
@@ -106,9 +103,9 @@ read-small kind a file l n = go (eqb (first (lentChecks kind a file l n) .number
         let p = number-split (not (isKind kind)) 4 0 _ (omega arith) z in
         let q = number-split (isUnfit l || isUnfitList n) 11 0 _ (omega arith) (p .1) in
         let r = number-split (ltb 65535 (length file)) 13 0 _ (omega arith) (q .1) in
-        let u = either-false (isUnfit l) (isUnfitList n) (q .0) in
-        let v = either-false (not (eqb (length (n .terms)) (length (n .ends)))) _ (u .1) in
-        let w = either-false (ltb 512 (length (n .terms))) (ltb 32768 (length (n .text))) (v .1) in
+        let u = neither (isUnfit l) (isUnfitList n) (q .0) in
+        let v = neither (not (eqb (length (n .terms)) (length (n .ends)))) _ (u .1) in
+        let w = neither (ltb 512 (length (n .terms))) (ltb 32768 (length (n .text))) (v .1) in
         let b = lines-bounded (0 + length file) (roomOf l n) kind a (linesFrom 0 file) [] [] (places-within 0 file) (omega arith) (omega arith) in
         record {
           place = omega (arith, b .place, ltb-false 65535 (length file) (r .0));
