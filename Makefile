@@ -68,7 +68,7 @@ fitting:
 MINUTES ?= 10
 SEED ?= 1000000
 
-soak: target/staticlib/libtrial_calls.a
+soak: target/staticlib/libtrackvesper.a
 	cd trial && CARGO_TARGET_DIR=../target/trial cargo run --release --offline --quiet --package against --bin soak -- $(MINUTES) $(SEED)
 
 # Arbitrary bytes to the exported calls and the programs, for MINUTES (fuzz/README.md).
@@ -78,9 +78,9 @@ fuzz:
 # rapper and serdi beside the proved calls, on FILES plain files; installs them (tools/peers/README.md).
 FILES ?= 200
 
-peers: target/staticlib/libtrial_calls.a
+peers: target/staticlib/libtrackvesper.a
 	tools/peers/run $(FILES)
 
 # Closing, running, reading, compiling and makers' lists beside plain Rust (docs/BENCHMARKS.md).
-bench: target/staticlib/libtrial_calls.a host
+bench: host
 	cd trial && CARGO_TARGET_DIR=../target/trial cargo run --release --offline --quiet --package against --bin bench

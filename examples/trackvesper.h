@@ -1,8 +1,8 @@
-/* Trackvesper for C and C++: closes a fitting book; reads and writes makers' lists as N-Triples.
+/* Trackvesper for C and C++: fitting books, what follows from them, questions about them; makers' lists as N-Triples.
  * Link with libtrackvesper.a (`rt staticlib trackvesper`, or `make install`).
  *
  * What holds for every call here:
- * - Any numbers and any bytes may be handed in. A call ends, answers one word, and is proved to answer and to leave in what was lent exactly
+ * - Any numbers and any bytes may be handed in. A call ends, answers, and is proved to answer and to leave in what was lent exactly
  *   what its contract in the sources says; what the contract says is said here in words.
  * - A lane or a run of bytes is a pointer and a length, counted in elements. The pointer is aligned as its type is and not NULL; where the
  *   length is 0 any such pointer will do (the address of a local variable, say).
@@ -28,7 +28,12 @@ enum {
     TRACKVESPER_MOST_ROWS = 1024,        /* rows of a table */
     TRACKVESPER_MOST_CLOSED_BOOK = 17415, /* bytes of a closed book: 7 and 17 for each of 1,024 rows */
     TRACKVESPER_MOST_NAMES = 512,        /* entries of a list of names */
-    TRACKVESPER_MOST_TEXT = 32768        /* bytes of its texts */
+    TRACKVESPER_MOST_TEXT = 32768,       /* bytes of its texts */
+    TRACKVESPER_MOST_STEPS = 48,         /* steps of a compiled question, and the records that compiling wants lent */
+    TRACKVESPER_MOST_ANSWERS = 256,      /* answers of a run */
+    TRACKVESPER_ANSWER_TERMS = 16,       /* terms of an answer, one for each term variable */
+    TRACKVESPER_ANSWER_ANNOTATIONS = 8,  /* annotations of an answer */
+    TRACKVESPER_UNBOUND = 65535          /* the term of a variable that an answer does not bind; its annotation is 0 */
 };
 
 /* Kinds of annotation. */
@@ -57,10 +62,93 @@ enum {
     TRACKVESPER_TOO_LONG = 13,      /* the input is over TRACKVESPER_MOST_INPUT bytes */
     TRACKVESPER_COUNT = 14,         /* a count over the lanes' length */
     TRACKVESPER_ORDER = 15,         /* a row not above the one before */
+    TRACKVESPER_NO_FIT = 16,        /* a question's field does not fit its holder, is missing, or bytes are left over */
+    TRACKVESPER_NOT_THERE = 17,     /* a question's tag that may not stand there */
+    TRACKVESPER_MARK = 18,          /* a wrong length, slot mark or test mark */
+    TRACKVESPER_VARIABLE = 19,      /* a variable's number too large */
+    TRACKVESPER_PARTS = 20,         /* a 33rd part */
+    TRACKVESPER_NOT_BOUND = 21,     /* a test names a variable that its part does not surely bind */
+    TRACKVESPER_OUTSIDE = 22,       /* a test's annotation variable stands outside its part too */
+    TRACKVESPER_STEP = 23,          /* a wrong number of steps, or an illegal step */
+    TRACKVESPER_NO_LOOKS = 24,      /* the looks allowed are used up; the answers given stand */
     TRACKVESPER_NOT_NTRIPLES = 26,  /* a line is not N-Triples */
     TRACKVESPER_NAMES_FULL = 27,    /* a text that is new finds no entry or too few bytes */
     TRACKVESPER_NO_TEXT = 39        /* a row's subject is a literal, or one of its terms has no text */
 };
+
+/* The page of calls. A table is four lanes of equal length, at most 1,024, and a count: row i is subj[i], pred[i], obj[i], ann[i].
+ * The number is answered; *place and what else there is to answer are always written. docs/REFERENCE.md has the orders of refusal and
+ * what is left behind, call by call. */
+
+/* Checks a table: 4, 11, 14, then row by row 8, 9, 10, 15. */
+uint8_t trackvesper_check(uint8_t kind, const uint16_t *subj, size_t subj_length, const uint16_t *pred, size_t pred_length,
+                          const uint16_t *obj, size_t obj_length, const uint64_t *ann, size_t ann_length, size_t count,
+                          size_t *place);
+
+/* Adds a triple; *count goes in as the table's count and comes out as the new one. A refusal changes nothing. */
+uint8_t trackvesper_add(uint8_t kind, uint16_t *subj, size_t subj_length, uint16_t *pred, size_t pred_length,
+                        uint16_t *obj, size_t obj_length, uint64_t *ann, size_t ann_length, size_t *count,
+                        uint16_t s, uint16_t p, uint16_t o, uint64_t a, size_t *place);
+
+/* Reads a book into the lanes: a new table. */
+uint8_t trackvesper_read(const uint8_t *book, size_t book_length, uint16_t *subj, size_t subj_length,
+                         uint16_t *pred, size_t pred_length, uint16_t *obj, size_t obj_length, uint64_t *ann, size_t ann_length,
+                         size_t *place, uint8_t *kind, uint16_t *base, size_t *count);
+
+/* Writes a table as a book, 7 + 17 * count bytes. A refusal changes nothing. */
+uint8_t trackvesper_write(uint8_t kind, uint16_t base, const uint16_t *subj, size_t subj_length,
+                          const uint16_t *pred, size_t pred_length, const uint16_t *obj, size_t obj_length,
+                          const uint64_t *ann, size_t ann_length, size_t count, uint8_t *out, size_t out_length,
+                          size_t *place, size_t *length);
+
+/* Closes a table; *count goes in as the table's count and comes out as the new one. Less than 24 KB of stack. */
+uint8_t trackvesper_close(uint8_t kind, uint16_t *subj, size_t subj_length, uint16_t *pred, size_t pred_length,
+                          uint16_t *obj, size_t obj_length, uint64_t *ann, size_t ann_length, size_t *count, size_t *place);
+
+/* A step: what it does (0 SEEK, 1 FORK, 2 GO, 3 TEST, 4 GIVE), a test's mark, a target, then mark and number of each slot. */
+typedef struct trackvesper_step {
+    uint8_t op, test;
+    size_t target;
+    uint8_t subj_mark;
+    uint16_t subj;
+    uint8_t pred_mark;
+    uint16_t pred;
+    uint8_t obj_mark;
+    uint16_t obj;
+    uint8_t ann_mark;
+    uint64_t ann;
+} trackvesper_step;
+
+typedef struct trackvesper_compiled {
+    uint8_t number;
+    size_t place, steps;
+} trackvesper_compiled;
+
+typedef struct trackvesper_ran {
+    uint8_t number;
+    size_t place, answers;
+    uint32_t looks;
+} trackvesper_ran;
+
+/* Compiles a question into at least 48 records; those past its steps stay as they were. A refusal changes nothing. */
+trackvesper_compiled trackvesper_compile(uint8_t kind, const uint8_t *question, size_t question_length,
+                                         trackvesper_step *records, size_t records_length);
+
+/* Runs the first steps of the records over a table, with some looks allowed. Answer i is terms[16 * i] to terms[16 * i + 15] and
+ * anns[8 * i] to anns[8 * i + 7]; the lanes are 16n and 8n long, n up to 256. Less than 40 KB of stack. */
+trackvesper_ran trackvesper_run(uint8_t kind, const uint16_t *subj, size_t subj_length, const uint16_t *pred, size_t pred_length,
+                                const uint16_t *obj, size_t obj_length, const uint64_t *ann, size_t ann_length, size_t count,
+                                const trackvesper_step *records, size_t records_length, size_t steps, uint32_t allowed,
+                                uint16_t *terms, size_t terms_length, uint64_t *anns, size_t anns_length);
+
+/* Compiles a question and runs it, with records of its own. Less than 48 KB of stack. */
+uint8_t trackvesper_ask(uint8_t kind, const uint16_t *subj, size_t subj_length, const uint16_t *pred, size_t pred_length,
+                        const uint16_t *obj, size_t obj_length, const uint64_t *ann, size_t ann_length, size_t count,
+                        const uint8_t *question, size_t question_length, uint32_t allowed,
+                        uint16_t *terms, size_t terms_length, uint64_t *anns, size_t anns_length,
+                        size_t *place, size_t *answers, uint32_t *looks);
+
+/* Calls that answer one word. */
 
 /* The number and the place (or length) in a word that a call answered. */
 static inline uint32_t trackvesper_number(uint64_t answer) { return (uint32_t)(answer >> 32); }

@@ -32,6 +32,7 @@ pub use steplist::ask;
 pub use steplist::compile;
 pub use steplist::run;
 
+mod calls;
 mod triples;
 
 // What a number counts in a word that holds a length or place beside it.

@@ -1,4 +1,4 @@
-//! The exports of the crate `trial_calls`, as safe functions over the model's own types.
+//! The exported calls of the page (`examples/trackvesper.h`), as safe functions over the model's own types.
 //!
 //! Nothing checks these declarations against the Rattle source: a slice goes over as a pointer
 //! and a length, a reference as a pointer.
@@ -52,32 +52,30 @@ macro_rules! over_lanes {
 }
 
 exports_over_lanes! {
-    fn trial_check(kind: u8; const; count: usize, place: *mut usize) -> u8;
-    fn trial_add(
+    fn trackvesper_check(kind: u8; const; count: usize, place: *mut usize) -> u8;
+    fn trackvesper_add(
         kind: u8; mut; count: *mut usize, s: u16, p: u16, o: u16, a: u64, place: *mut usize
     ) -> u8;
-    fn trial_read(
+    fn trackvesper_read(
         book: *const u8, book_len: usize; mut;
         place: *mut usize, kind: *mut u8, base: *mut u16, count: *mut usize
     ) -> u8;
-    fn trial_write(
+    fn trackvesper_write(
         kind: u8, base: u16; const;
         count: usize, out: *mut u8, out_len: usize, place: *mut usize, length: *mut usize
     ) -> u8;
-    fn trial_close(kind: u8; mut; count: *mut usize, place: *mut usize) -> u8;
-    fn trial_read_triples(
+    fn trackvesper_close(kind: u8; mut; count: *mut usize, place: *mut usize) -> u8;
+    fn trackvesper_read_triples(
         kind: u8, a: u64, file: *const u8, file_len: usize; mut;
         terms: *mut u16, terms_len: usize, ends: *mut u16, ends_len: usize,
-        text: *mut u8, text_len: usize,
-        place: *mut usize, count: *mut usize, names: *mut usize
-    ) -> u8;
-    fn trial_write_triples(
+        text: *mut u8, text_len: usize
+    ) -> u64;
+    fn trackvesper_write_triples(
         kind: u8; const;
         count: usize, terms: *const u16, terms_len: usize, ends: *const u16, ends_len: usize,
-        text: *const u8, text_len: usize, names: usize, out: *mut u8, out_len: usize,
-        place: *mut usize, size: *mut usize
-    ) -> u8;
-    fn trial_run(
+        text: *const u8, text_len: usize, names: usize, out: *mut u8, out_len: usize
+    ) -> u64;
+    fn trackvesper_run(
         kind: u8; const;
         count: usize, records: *const StepRecord, records_len: usize, steps: usize, allowed: u32,
         terms: *mut u16, terms_len: usize, anns: *mut u64, anns_len: usize
@@ -85,9 +83,9 @@ exports_over_lanes! {
 }
 
 extern "C" {
-    fn trial_close_book(book: *const u8, book_len: usize, out: *mut u8, out_len: usize) -> u64;
+    fn trackvesper_close_book(book: *const u8, book_len: usize, out: *mut u8, out_len: usize) -> u64;
 
-    fn trial_fill(
+    fn trackvesper_compile(
         kind: u8,
         bytes: *const u8,
         bytes_len: usize,
@@ -114,7 +112,7 @@ struct RunDone {
 pub fn check(kind: u8, lanes: &Lanes, count: usize) -> Verdict {
     let mut place = usize::MAX;
     // SAFETY: the slices are live for the call, which only reads them.
-    let number = unsafe { over_lanes!(trial_check(kind; lanes as_ptr; count, &mut place)) };
+    let number = unsafe { over_lanes!(trackvesper_check(kind; lanes as_ptr; count, &mut place)) };
     Verdict::new(u32::from(number), place)
 }
 
@@ -123,7 +121,7 @@ pub fn add(kind: u8, lanes: &mut Lanes, mut count: usize, row: Row) -> Added {
     let ((s, p, o), a) = row;
     // SAFETY: the slices are live for the call, borrowed for it alone, and do not overlap.
     let number = unsafe {
-        over_lanes!(trial_add(kind; lanes as_mut_ptr; &mut count, s, p, o, a, &mut place))
+        over_lanes!(trackvesper_add(kind; lanes as_mut_ptr; &mut count, s, p, o, a, &mut place))
     };
     Added { number: u32::from(number), place: place as u64, count }
 }
@@ -135,7 +133,7 @@ pub fn read(book: &[u8], lanes: &mut Lanes) -> ReadOut {
     // SAFETY: the slices are live for the call, the lanes borrowed for it alone, and none overlap.
     let number = unsafe {
         let (bytes, len) = (book.as_ptr(), book.len());
-        over_lanes!(trial_read(bytes, len; lanes as_mut_ptr; &mut place, kind, base, count))
+        over_lanes!(trackvesper_read(bytes, len; lanes as_mut_ptr; &mut place, kind, base, count))
     };
     ReadOut { number: u32::from(number), place: place as u64, ..out }
 }
@@ -146,7 +144,7 @@ pub fn write(kind: u8, base: u16, lanes: &Lanes, count: usize, out: &mut [u8]) -
     let number = unsafe {
         let (bytes, len) = (out.as_mut_ptr(), out.len());
         let (place, length) = (&mut place, &mut length);
-        over_lanes!(trial_write(kind, base; lanes as_ptr; count, bytes, len, place, length))
+        over_lanes!(trackvesper_write(kind, base; lanes as_ptr; count, bytes, len, place, length))
     };
     WriteOut { number: u32::from(number), place: place as u64, length }
 }
@@ -155,7 +153,7 @@ pub fn close(kind: u8, lanes: &mut Lanes, mut count: usize) -> CloseOut {
     let mut place = usize::MAX;
     // SAFETY: the lanes are live for the call, borrowed for it alone, and do not overlap.
     let number =
-        unsafe { over_lanes!(trial_close(kind; lanes as_mut_ptr; &mut count, &mut place)) };
+        unsafe { over_lanes!(trackvesper_close(kind; lanes as_mut_ptr; &mut count, &mut place)) };
     CloseOut { number: u32::from(number), place: place as u64, count }
 }
 
@@ -167,15 +165,16 @@ pub fn read_triples(
     lanes: &mut Lanes,
     names: &mut Names,
 ) -> ntriples::ReadOut {
-    let (mut place, mut count, mut listed) = (usize::MAX, usize::MAX, usize::MAX);
     let Names { terms, ends, text } = names;
     // SAFETY: the slices are live for the call, the lanes borrowed for it alone, and none overlap.
-    let number = unsafe {
-        over_lanes!(trial_read_triples(kind, ann, file.as_ptr(), file.len(); lanes as_mut_ptr;
+    let word = unsafe {
+        over_lanes!(trackvesper_read_triples(kind, ann, file.as_ptr(), file.len(); lanes as_mut_ptr;
             terms.as_mut_ptr(), terms.len(), ends.as_mut_ptr(), ends.len(),
-            text.as_mut_ptr(), text.len(), &mut place, &mut count, &mut listed))
+            text.as_mut_ptr(), text.len()))
     };
-    ntriples::ReadOut { number: u32::from(number), place: place as u64, count, names: listed }
+    let (number, place) = refused(word);
+    let (count, names) = if number == 0 { (word & 0xFFFF, word >> 16) } else { (0, 0) };
+    ntriples::ReadOut { number, place, count: count as usize, names: names as usize }
 }
 
 /// Writes a table by the first `listed` entries of a names list.
@@ -187,21 +186,27 @@ pub fn write_triples(
     listed: usize,
     out: &mut [u8],
 ) -> ntriples::WriteOut {
-    let (mut place, mut length) = (usize::MAX, usize::MAX);
     let Names { terms, ends, text } = names;
     // SAFETY: the slices are live for the call, the output borrowed for it alone, and none overlap.
-    let number = unsafe {
-        over_lanes!(trial_write_triples(kind; lanes as_ptr;
+    let word = unsafe {
+        over_lanes!(trackvesper_write_triples(kind; lanes as_ptr;
             count, terms.as_ptr(), terms.len(), ends.as_ptr(), ends.len(),
-            text.as_ptr(), text.len(), listed, out.as_mut_ptr(), out.len(),
-            &mut place, &mut length))
+            text.as_ptr(), text.len(), listed, out.as_mut_ptr(), out.len()))
     };
-    ntriples::WriteOut { number: u32::from(number), place: place as u64, length }
+    let (number, place) = refused(word);
+    let length = if number == 0 { word as usize } else { 0 };
+    ntriples::WriteOut { number, place, length }
+}
+
+/// The number and the place in a word that a call answered; 0 and 0 where it was done.
+fn refused(word: u64) -> (u32, u64) {
+    let number = (word >> 32) as u32;
+    (number, if number == 0 { 0 } else { word & 0xFFFF_FFFF })
 }
 
 pub fn close_book(book: &[u8], out: &mut [u8]) -> u64 {
     // SAFETY: both slices are live for the call and do not overlap.
-    unsafe { trial_close_book(book.as_ptr(), book.len(), out.as_mut_ptr(), out.len()) }
+    unsafe { trackvesper_close_book(book.as_ptr(), book.len(), out.as_mut_ptr(), out.len()) }
 }
 
 /// Compiles into records that are lent.
@@ -209,7 +214,7 @@ pub fn compile(kind: u8, question: &[u8], records: &mut [StepRecord]) -> Compile
     // SAFETY: both slices are live for the call and do not overlap; the record has C's layout on both sides.
     let filled = unsafe {
         let (lent, room) = (records.as_mut_ptr(), records.len());
-        trial_fill(kind, question.as_ptr(), question.len(), lent, room)
+        trackvesper_compile(kind, question.as_ptr(), question.len(), lent, room)
     };
     Compiled { number: u32::from(filled.number), place: filled.place as u64, steps: filled.count }
 }
@@ -220,7 +225,7 @@ pub fn run(running: &Running, terms: &mut [u16], anns: &mut [u64]) -> Ran {
     let records: Vec<StepRecord> = steps.iter().map(record_of).collect();
     // SAFETY: the slices are live for the call, the answer lanes borrowed for it alone, and none overlap.
     let done = unsafe {
-        over_lanes!(trial_run(*kind; lanes as_ptr;
+        over_lanes!(trackvesper_run(*kind; lanes as_ptr;
             *count, records.as_ptr(), records.len(), *step_count, *allowed,
             terms.as_mut_ptr(), terms.len(), anns.as_mut_ptr(), anns.len()))
     };

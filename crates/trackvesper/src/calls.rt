@@ -1,4 +1,5 @@
-// The calls that trial/ makes from Rust, by numbers and slices: each hands over to a proved function and lays its answer out.
+// The page's calls for C, as they are there. The number is answered, and what else they answer is laid in the places lent; `compile` and `run`, whose
+// steps are lent as records, answer the page's own structs.
 ghost use mathlib.Core.Path.{_≡_};
 ghost use lib.ListN.{length};
 ghost use Rattle.term.specs.Refusal.{verdict, first};
@@ -11,16 +12,22 @@ ghost use Rattle.book.specs.Writing.{Writing};
 ghost use Rattle.closing.specs.Closing.{Closing};
 ghost use Rattle.machine.specs.Running.{running, Ran};
 ghost use Rattle.steplist.specs.Filling.{Filling};
-ghost use Rattle.names.specs.Lent.{namesBefore, namesAfter};
-ghost use Rattle.ntread.specs.Reading.{ReadingTriples};
-ghost use Rattle.ntriples.specs.Writing.{WritingTriples};
-ghost use Rattle.trackvesper.specs.ClosedBook.{ClosedBook};
-use trackvesper::Filled;
-use trackvesper::RunDone;
-use trackvesper::StepRecord;
+ghost use Rattle.steplist.specs.Asking.{asking};
+use book::read;
+use book::write;
+use closing::close;
+use machine::RunDone;
+use question::StepRecord;
+use steplist::Filled;
+use steplist::ask;
+use steplist::compile;
+use steplist::run;
+use table::add;
+use table::check;
 
+// Checks a table.
 #[no_mangle]
-pub extern "C" fn trial_check(
+pub extern "C" fn trackvesper_check(
     kind: u8,
     subj: &[u16],
     pred: &[u16],
@@ -31,14 +38,14 @@ pub extern "C" fn trial_check(
 ) -> u8
     ensures { λ r. ⌜ verdict r (now (place .exit)) ≡ first (tableChecks kind (before subj pred obj ann) count) ⌝ }
 {
-    let answer = trackvesper::check(kind, subj, pred, obj, ann, count);
+    let answer = check(kind, subj, pred, obj, ann, count);
     *place = answer.place;
     answer.number
 }
 
-// count goes in as the table's count and comes out as the new one.
+// Adds a triple; count goes in as the table's count and comes out as the new one.
 #[no_mangle]
-pub extern "C" fn trial_add(
+pub extern "C" fn trackvesper_add(
     kind: u8,
     subj: &mut [u16],
     pred: &mut [u16],
@@ -53,14 +60,15 @@ pub extern "C" fn trial_add(
 ) -> u8
     ensures { λ r. ⌜ Adding kind (row s p o a) (before subj pred obj ann) (now (count .entry)) (after subj pred obj ann) r (now (place .exit)) (now (count .exit)) ⌝ }
 {
-    let answer = trackvesper::add(kind, subj, pred, obj, ann, *count, s, p, o, a);
+    let answer = add(kind, subj, pred, obj, ann, *count, s, p, o, a);
     *count = answer.count;
     *place = answer.place;
     answer.number
 }
 
+// Reads a book into the lanes.
 #[no_mangle]
-pub extern "C" fn trial_read(
+pub extern "C" fn trackvesper_read(
     book: &[u8],
     subj: &mut [u16],
     pred: &mut [u16],
@@ -73,7 +81,7 @@ pub extern "C" fn trial_read(
 ) -> u8
     ensures { λ r. ⌜ Reading (now (book .entry)) (before subj pred obj ann) (after subj pred obj ann) r (now (place .exit)) (now (kind .exit)) (now (base .exit)) (now (count .exit)) ⌝ }
 {
-    let answer = trackvesper::read(book, subj, pred, obj, ann);
+    let answer = read(book, subj, pred, obj, ann);
     *place = answer.place;
     *kind = answer.kind;
     *base = answer.base;
@@ -81,8 +89,9 @@ pub extern "C" fn trial_read(
     answer.number
 }
 
+// Writes a table as a book.
 #[no_mangle]
-pub extern "C" fn trial_write(
+pub extern "C" fn trackvesper_write(
     kind: u8,
     base: u16,
     subj: &[u16],
@@ -96,15 +105,15 @@ pub extern "C" fn trial_write(
 ) -> u8
     ensures { λ r. ⌜ Writing kind base (before subj pred obj ann) count (now (out .entry)) (now (out .exit)) r (now (place .exit)) (now (length .exit)) ⌝ }
 {
-    let answer = trackvesper::write(kind, base, subj, pred, obj, ann, count, out);
+    let answer = write(kind, base, subj, pred, obj, ann, count, out);
     *place = answer.place;
     *length = answer.length;
     answer.number
 }
 
-// count goes in as the table's count and comes out as the new one.
+// Closes a table; count goes in as the table's count and comes out as the new one.
 #[no_mangle]
-pub extern "C" fn trial_close(
+pub extern "C" fn trackvesper_close(
     kind: u8,
     subj: &mut [u16],
     pred: &mut [u16],
@@ -115,31 +124,23 @@ pub extern "C" fn trial_close(
 ) -> u8
     ensures { λ r. ⌜ Closing kind (before subj pred obj ann) (now (count .entry)) (after subj pred obj ann) r (now (place .exit)) (now (count .exit)) ⌝ }
 {
-    let answer = trackvesper::close(kind, subj, pred, obj, ann, *count);
+    let answer = close(kind, subj, pred, obj, ann, *count);
     *count = answer.count;
     *place = answer.place;
     answer.number
 }
 
-// The exported call under a name of the trial's own.
+// Compiles a question into the records lent.
 #[no_mangle]
-pub extern "C" fn trial_close_book(book: &[u8], out: &mut [u8]) -> u64
-    ensures { λ r. ⌜ ClosedBook (now (book .entry)) (now (out .entry)) (now (out .exit)) r ⌝ }
-{
-    trackvesper::trackvesper_close_book(book, out)
-}
-
-// Compiling into records that Rust lends.
-#[no_mangle]
-pub extern "C" fn trial_fill(kind: u8, bytes: &[u8], records: &mut [StepRecord]) -> Filled
+pub extern "C" fn trackvesper_compile(kind: u8, bytes: &[u8], records: &mut [StepRecord]) -> Filled
     ensures { λ r. ⌜ Filling kind (now (bytes .entry)) (now (records .entry)) (r .number) (r .place) (r .count) (now (records .exit)) ⌝ }
 {
-    trackvesper::compile(kind, bytes, records)
+    compile(kind, bytes, records)
 }
 
-// A run over records that Rust lends.
+// Runs the first `steps` of the records lent over a table, with some looks allowed.
 #[no_mangle]
-pub extern "C" fn trial_run(
+pub extern "C" fn trackvesper_run(
     kind: u8,
     subj: &[u16],
     pred: &[u16],
@@ -154,7 +155,7 @@ pub extern "C" fn trial_run(
 ) -> RunDone
     ensures { λ r. ⌜ Ran (running kind (before subj pred obj ann) count (now (terms .entry)) (now (anns .entry)) (now (records .entry)) (length (now (records .entry))) steps allowed) (r .number) (r .place) (r .answers) (r .looks) (now (terms .entry)) (now (anns .entry)) (now (terms .exit)) (now (anns .exit)) ⌝ }
 {
-    trackvesper::run(
+    run(
         kind,
         subj,
         pred,
@@ -169,65 +170,39 @@ pub extern "C" fn trial_run(
     )
 }
 
-// A makers' list read into a table and a names list.
+// Asks a question of a table, with some looks allowed.
 #[no_mangle]
-pub extern "C" fn trial_read_triples(
-    kind: u8,
-    a: u64,
-    file: &[u8],
-    subj: &mut [u16],
-    pred: &mut [u16],
-    obj: &mut [u16],
-    ann: &mut [u64],
-    terms: &mut [u16],
-    ends: &mut [u16],
-    text: &mut [u8],
-    place: &mut usize,
-    count: &mut usize,
-    names: &mut usize,
-) -> u8
-    ensures { λ r. ⌜ ReadingTriples kind a (now (file .entry)) (before subj pred obj ann) (after subj pred obj ann) (namesBefore terms ends text) (namesAfter terms ends text) r (now (place .exit)) (now (count .exit)) (now (names .exit)) ⌝ }
-{
-    let answer = trackvesper::read_triples(kind, a, file, subj, pred, obj, ann, terms, ends, text);
-    *place = answer.place;
-    *count = answer.count;
-    *names = answer.names;
-    answer.number
-}
-
-// A table written by a names list as a makers' list.
-#[no_mangle]
-pub extern "C" fn trial_write_triples(
+pub extern "C" fn trackvesper_ask(
     kind: u8,
     subj: &[u16],
     pred: &[u16],
     obj: &[u16],
     ann: &[u64],
     count: usize,
-    terms: &[u16],
-    ends: &[u16],
-    text: &[u8],
-    names: usize,
-    out: &mut [u8],
+    question: &[u8],
+    allowed: u32,
+    terms: &mut [u16],
+    anns: &mut [u64],
     place: &mut usize,
-    size: &mut usize,
+    answers: &mut usize,
+    looks: &mut u32,
 ) -> u8
-    ensures { λ r. ⌜ WritingTriples kind (before subj pred obj ann) count (namesBefore terms ends text) names (now (out .entry)) (now (out .exit)) r (now (place .exit)) (now (size .exit)) ⌝ }
+    ensures { λ r. ⌜ Ran (asking kind (before subj pred obj ann) count (now (terms .entry)) (now (anns .entry)) (now (question .entry)) allowed) r (now (place .exit)) (now (answers .exit)) (now (looks .exit)) (now (terms .entry)) (now (anns .entry)) (now (terms .exit)) (now (anns .exit)) ⌝ }
 {
-    let answer = trackvesper::write_triples(
+    let answer = ask(
         kind,
         subj,
         pred,
         obj,
         ann,
         count,
+        question,
+        allowed,
         terms,
-        ends,
-        text,
-        names,
-        out,
+        anns,
     );
     *place = answer.place;
-    *size = answer.size;
+    *answers = answer.answers;
+    *looks = answer.looks;
     answer.number
 }

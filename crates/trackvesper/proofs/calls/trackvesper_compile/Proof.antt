@@ -1,4 +1,4 @@
--- `trial_calls::trial_fill` meets its contract: a walk of its MIR, by hand. The question and the records are passed on to `steplist::compile`, which says what the contract says.
+-- `trackvesper::calls::trackvesper_compile` meets its contract: a walk of its MIR, by hand. The question and the records are passed on to `steplist::compile`, which says what the contract says.
 -- Assumes nothing.
 use mathlib.Core.Path.{_≡_, refl}
 use Prim.Native.Nat.{ℕ, _<_, _^_}
@@ -47,10 +47,10 @@ use Rattle.steplist.proofs.compile as compile
 use Rattle.steplist.proofs.compile.Symbol as compile-def
 use Rattle.steplist.proofs.compile.Symbol.{name as #compile}
 use Rattle.steplist.proofs.compile.Met as compile-thm
-use Rattle.trial_calls.proofs.trial_fill.Key.{name as #trial-fill}
-use Rattle.trial_calls.proofs.trial_fill as f
-use Rattle.trial_calls.proofs.trial_fill.Statement as stated
-use Rattle.trial_calls.proofs.trial_fill.Code as code
+use Rattle.trackvesper.proofs.calls.trackvesper_compile.Key.{name as #trackvesper-compile}
+use Rattle.trackvesper.proofs.calls.trackvesper_compile as f
+use Rattle.trackvesper.proofs.calls.trackvesper_compile.Statement as stated
+use Rattle.trackvesper.proofs.calls.trackvesper_compile.Code as code
 
 abbrev R : RattleType
 R = T.the-row
@@ -152,10 +152,10 @@ module _ {M : Type 1} (𝓤 : URA M) (H : Heap 𝓤) (A : Atoms 𝓤) (W : Given
   meets = walk-meets 𝓤 H A f.ended stayed W (goes-none 𝓤 H A W 2 (λ _. u8) yes (λ κs x f. refl), (goes-none-slice 𝓤 H A W 2 (0 ∷ []) tt (plain (λ _. u8)) yes, (goes-gave-slice 𝓤 H A W 2 1 tt (plain (λ _. R)), tt))) (f.clauses 𝓤 H A mem run)
       (WpFn 𝓤 H (𝓣 .C) (𝓣 .Λ) code.function) (WpFn-mono 𝓤 H (W .laws) 𝓣 code.function) walks
 
-pub trial-fill-spec : {M : Type 1} → stated.statement M
+pub trackvesper-compile-spec : {M : Type 1} → stated.statement M
 unfolding code.routine tablesOf
-trial-fill-spec 𝓤 H 𝓜 𝓖 𝓡 =
+trackvesper-compile-spec 𝓤 H 𝓜 𝓖 𝓡 =
     entered 𝓤 H (tripleOf 𝓤 H (𝓖 .A) f.signature (f.spec 𝓤 H (𝓖 .A) (𝓜 .mem) (𝓡 .run)))
-    (tables 𝓤 H 𝓜 𝓡 code.env .C) (tables 𝓤 H 𝓜 𝓡 code.env .Λ) #trial-fill code.function (code.unfolded 𝓤 H 𝓜 𝓡)
+    (tables 𝓤 H 𝓜 𝓡 code.env .C) (tables 𝓤 H 𝓜 𝓡 code.env .Λ) #trackvesper-compile code.function (code.unfolded 𝓤 H 𝓜 𝓡)
     (meets 𝓤 H (𝓖 .A) (givenOf 𝓤 H 𝓜 𝓖) (𝓜 .mem) (𝓡 .run) (tablesOf 𝓤 H 𝓜 (tables 𝓤 H 𝓜 𝓡 code.env))
     (cited 𝓤 H (Compile 𝓤 H (𝓖 .A) (𝓜 .mem) (𝓡 .run)) 𝓜 𝓡 code.env #compile compile-def.routine code.calls-steplist·compile (compile-thm.met 𝓤 H 𝓜 𝓖 𝓡)))

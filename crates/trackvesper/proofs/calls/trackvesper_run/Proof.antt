@@ -1,4 +1,4 @@
--- `trial_calls::trial_run` meets its contract: a walk of its MIR, by hand. Everything is passed on to `steplist::run`, which says what the contract says.
+-- `trackvesper::calls::trackvesper_run` meets its contract: a walk of its MIR, by hand. Everything is passed on to `steplist::run`, which says what the contract says.
 -- Assumes nothing.
 use mathlib.Core.Path.{_≡_, refl}
 use Prim.Native.Nat.{ℕ, _<_, _^_}
@@ -48,10 +48,10 @@ use Rattle.steplist.proofs.run as run′
 use Rattle.steplist.proofs.run.Symbol as run-def
 use Rattle.steplist.proofs.run.Symbol.{name as #run}
 use Rattle.steplist.proofs.run.Met as run-thm
-use Rattle.trial_calls.proofs.trial_run.Key.{name as #trial-run}
-use Rattle.trial_calls.proofs.trial_run as f
-use Rattle.trial_calls.proofs.trial_run.Statement as stated
-use Rattle.trial_calls.proofs.trial_run.Code as code
+use Rattle.trackvesper.proofs.calls.trackvesper_run.Key.{name as #trackvesper-run}
+use Rattle.trackvesper.proofs.calls.trackvesper_run as f
+use Rattle.trackvesper.proofs.calls.trackvesper_run.Statement as stated
+use Rattle.trackvesper.proofs.calls.trackvesper_run.Code as code
 
 abbrev R : RattleType
 R = T.the-row
@@ -203,10 +203,10 @@ module _ {M : Type 1} (𝓤 : URA M) (H : Heap 𝓤) (A : Atoms 𝓤) (W : Given
   meets = walk-meets 𝓤 H A f.ended stayed W (goes-none 𝓤 H A W 7 (λ _. u8) yes (λ κs x f. refl), (goes-none-slice 𝓤 H A W 7 (0 ∷ []) tt (plain (λ _. u16)) yes, (goes-none-slice 𝓤 H A W 7 (1 ∷ []) tt (plain (λ _. u16)) yes, (goes-none-slice 𝓤 H A W 7 (2 ∷ []) tt (plain (λ _. u16)) yes, (goes-none-slice 𝓤 H A W 7 (3 ∷ []) tt (plain (λ _. u64)) yes, (goes-none 𝓤 H A W 7 (λ _. usize) yes (λ κs x f. refl), (goes-none-slice 𝓤 H A W 7 (4 ∷ []) tt (plain (λ _. R)) yes, (goes-none 𝓤 H A W 7 (λ _. usize) yes (λ κs x f. refl), (goes-none 𝓤 H A W 7 (λ _. u32) yes (λ κs x f. refl), (goes-gave-slice 𝓤 H A W 7 5 tt (plain (λ _. u16)), (goes-gave-slice 𝓤 H A W 7 6 tt (plain (λ _. u64)), tt)))))))))))
       (f.clauses 𝓤 H A mem run) (WpFn 𝓤 H (𝓣 .C) (𝓣 .Λ) code.function) (WpFn-mono 𝓤 H (W .laws) 𝓣 code.function) walks
 
-pub trial-run-spec : {M : Type 1} → stated.statement M
+pub trackvesper-run-spec : {M : Type 1} → stated.statement M
 unfolding code.routine tablesOf
-trial-run-spec 𝓤 H 𝓜 𝓖 𝓡 =
+trackvesper-run-spec 𝓤 H 𝓜 𝓖 𝓡 =
     entered 𝓤 H (tripleOf 𝓤 H (𝓖 .A) f.signature (f.spec 𝓤 H (𝓖 .A) (𝓜 .mem) (𝓡 .run)))
-    (tables 𝓤 H 𝓜 𝓡 code.env .C) (tables 𝓤 H 𝓜 𝓡 code.env .Λ) #trial-run code.function (code.unfolded 𝓤 H 𝓜 𝓡)
+    (tables 𝓤 H 𝓜 𝓡 code.env .C) (tables 𝓤 H 𝓜 𝓡 code.env .Λ) #trackvesper-run code.function (code.unfolded 𝓤 H 𝓜 𝓡)
     (meets 𝓤 H (𝓖 .A) (givenOf 𝓤 H 𝓜 𝓖) (𝓜 .mem) (𝓡 .run) (tablesOf 𝓤 H 𝓜 (tables 𝓤 H 𝓜 𝓡 code.env))
     (cited 𝓤 H (Run 𝓤 H (𝓖 .A) (𝓜 .mem) (𝓡 .run)) 𝓜 𝓡 code.env #run run-def.routine code.calls-steplist·run (run-thm.met 𝓤 H 𝓜 𝓖 𝓡)))
