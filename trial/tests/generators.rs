@@ -126,7 +126,6 @@ fn questions_meet_every_number() {
             assert!(steps::check(kind, &records, out.steps).done());
         }
     }
-    // 25 is met by no question at all.
     assert_met(&met, &[0, 4, 8, 9, 10, 11, 16, 17, 18, 19, 20, 21, 22], 60);
 }
 

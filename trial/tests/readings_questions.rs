@@ -366,19 +366,3 @@ fn the_steps_of_a_question() {
     let unused = Step { subj: v(0), pred: c(2), obj: c(11), ann: va(0), ..Step::default() };
     assert_eq!(a, unused);
 }
-
-/// 32 parts never make more than 48 steps: 15 EITHERs, 16 TRIPLEs, an ONLY and GIVE are 48.
-#[test]
-fn twenty_five_is_met_by_trees_built_by_hand_alone() {
-    let mut part = plain();
-    for _ in 0..15 {
-        part = either(part, plain());
-    }
-    let most = only(part.clone(), Test::Equal(v(0), v(1)));
-    assert_eq!((most.parts(), question::flat(&most).len()), (32, 48));
-    assert_eq!(compiled_part(1, &most), (0, 0));
-    let more = either(part, plain());
-    let verdict = question::few_enough(&more).unwrap_err();
-    assert_eq!((verdict.number, verdict.place), (25, 0));
-    assert!(question::few_enough(&most).is_ok());
-}

@@ -57,7 +57,7 @@ fn numbers_8_to_15_of_books_and_tables() {
 }
 
 #[test]
-fn numbers_16_to_22_and_25_of_questions() {
+fn numbers_16_to_22_of_questions() {
     let second = |right: &[u8]| compiled(1, &field(17, &[&bytes_of(&plain()), right].concat()));
     assert_eq!(second(&[]), (16, 24));
     assert_eq!(second(&[99, 0, 0]), (17, 24));
@@ -73,11 +73,6 @@ fn numbers_16_to_22_and_25_of_questions() {
     assert_eq!(second(&bytes_of(&triple(v(0), v(0), v(0), ca(0)))), (10, 24));
     let mut records = vec![Step::default(); 47];
     assert_eq!(question::compile(1, &bytes_of(&plain()), &mut records).number, 11);
-    let mut tree = plain();
-    (0..16).for_each(|_| {
-        tree = trial::question::Part::Either(Box::new(tree.clone()), Box::new(plain()))
-    });
-    assert_eq!(question::few_enough(&tree), Err(table::Verdict { number: 25, place: 0 }));
 }
 
 #[test]

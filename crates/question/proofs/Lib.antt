@@ -8,6 +8,7 @@ pub mod Made
 pub mod Lanewise
 pub mod Judged
 pub mod Outcomes
+pub mod StepLimit
 pub mod AtMost
 pub mod TargetsLeadOn
 pub mod ZeroIsDone

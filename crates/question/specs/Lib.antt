@@ -3,4 +3,5 @@ pub mod Steps
 pub mod LegalSteps
 pub mod Records
 pub mod Compiling
+pub mod StepLimit
 pub mod Inner

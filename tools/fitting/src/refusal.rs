@@ -38,7 +38,6 @@ pub fn words(number: u32) -> &'static str {
         22 => "test's annotation variable also stands in a TRIPLE outside that part",
         23 => "step count 0, over 48 or over the records lent; else the first step illegal for the kind, or the last not GIVE",
         24 => "looks used up: a look is due and none is left",
-        25 => "more than 48 steps",
         _ => "a number that the document does not have",
     }
 }

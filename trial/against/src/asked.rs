@@ -2,8 +2,8 @@
 //! hand from the tables beside.
 
 use crate::stored::p1;
-use crate::stored_questions::{ann, con, holder, lamp, least, only, p11, terms, triple, var};
-use crate::stored_questions::{BOTH, EITHER};
+use crate::stored_questions::{ann, con, holder, lamp, least, longest, only, p11, terms, triple};
+use crate::stored_questions::{var, BOTH, EITHER};
 
 fn behind_length(bytes: &[u8]) -> Vec<u8> {
     [&(bytes.len() as u16).to_be_bytes()[..], bytes].concat()
@@ -65,6 +65,11 @@ pub fn countings() -> Vec<(&'static str, Vec<u8>, String)> {
             "both in both: 3 looks, 2 times 3, then 3",
             input(&p1(), &[chain]),
             "asked 0 0 1 12\n".to_string() + &line(&[10, 11, 12], &[120, 2016, 96]),
+        ),
+        (
+            "the question of 48 steps (C-14): 16 TRIPLEs, 3 looks each",
+            input(&p1(), &[longest()]),
+            "asked 0 0 16 48\n".to_string() + &line(&[10], &[120]).repeat(16),
         ),
         ("an empty table", input(&p1()[..7], &[anything]), "asked 0 0 0 0\n".to_string()),
         (

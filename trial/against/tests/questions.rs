@@ -72,11 +72,23 @@ fn either_compiles_to_fork_and_go() {
     assert_eq!(records[6], record([4, 0, 0, 0, 0, 0, 0, 0, 0, 0, 0]));
 }
 
-/// 32 parts make 48 steps at most, and do.
+/// 32 parts make 48 steps at most, and do (C-14): FORK, SEEK and GO of each EITHER, then SEEK, TEST
+/// and GIVE.
 #[test]
 fn the_longest_question_fills_the_records() {
-    let (answer, records) = compiled(1, &stored::longest(), 48);
-    assert_eq!((answer.steps, records[47].op), (48, 4));
+    let bytes = stored::longest();
+    assert_eq!(bytes.len(), 394);
+    for kind in 1..=4 {
+        let (answer, records) = compiled(kind, &bytes, 48);
+        assert_eq!((answer.number, answer.steps), (0, 48));
+        let seek = record([0, 0, 0, 1, 0, 0, 2, 0, 11, 1, 0]);
+        for (at, rung) in records[..45].chunks(3).enumerate() {
+            assert_eq!(rung[0], record([1, 0, 3 * at as u64 + 3, 0, 0, 0, 0, 0, 0, 0, 0]));
+            assert_eq!(rung[1..], [seek, record([2, 0, 46, 0, 0, 0, 0, 0, 0, 0, 0])]);
+        }
+        assert_eq!(records[45..47], [seek, record([3, 0, 0, 1, 0, 0, 0, 1, 0, 0, 0])]);
+        assert_eq!(records[47], record([4, 0, 0, 0, 0, 0, 0, 0, 0, 0, 0]));
+    }
 }
 
 /// Questions of every number of parts: 1 to 32 pass, 33 is 20.

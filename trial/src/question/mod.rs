@@ -23,12 +23,12 @@ pub struct Compiled {
     pub steps: usize,
 }
 
-/// Compiles a question: 4, 11, its fields as read, then 21, 22, 25. Records past the steps are
-/// untouched; more than 48 may be lent.
+/// Compiles a question: 4, 11, its fields as read, then 21, 22. Records past the steps are
+/// untouched; more than 48 may be lent, and 48 are always enough.
 pub fn compile(kind: u8, question: &[u8], records: &mut [Step]) -> Compiled {
     let compiled = judge_call(kind, records.len())
         .and_then(|()| checked(kind, question))
-        .and_then(|part| few_enough(&part));
+        .map(|part| flat(&part));
     match compiled {
         Err(verdict) => Compiled { number: verdict.number, place: verdict.place, steps: 0 },
         Ok(steps) => {
@@ -56,14 +56,4 @@ pub fn checked(kind: u8, question: &[u8]) -> Result<Part, Verdict> {
     bound::judge_unbound(&part)?;
     bound::judge_outside(&part)?;
     Ok(part)
-}
-
-/// 25, judged apart from the bytes: 32 parts never make more than 48 steps, so no question
-/// reaches it, only a tree built by hand.
-pub fn few_enough(part: &Part) -> Result<Vec<Step>, Verdict> {
-    let steps = flat(part);
-    if steps.len() > MOST_STEPS {
-        return Err(Verdict::new(25, 0));
-    }
-    Ok(steps)
 }
