@@ -7,7 +7,7 @@ use Prim.Native.Nat.{ℕ, _<_}
 use native.Mathlib.Omega.{arith}
 use borrow.Author.Tests.{not-false}
 use Rattle.term.specs.Refusal.{Check, verdict, done, first}
-use Rattle.term.proofs.Firsts.{Numbered, AllAt, Alike, first-stops, first-passes, first-split, number-split}
+use Rattle.term.proofs.Firsts.{Numbered, Without, AllAt, Alike, first-stops, first-passes, first-split, number-split}
 use Rattle.annotation.specs.Kinds.{isKind, kindChecks, isLegal, annotationChecks}
 use Rattle.annotation.proofs.KindLaws.{laws}
 use Rattle.annotation.proofs.Legal.{legal-value}
@@ -15,6 +15,10 @@ use Rattle.annotation.proofs.Legal.{legal-value}
 module _ (kind p : ℕ) where
   pub kind-numbered : Numbered (kindChecks kind p)
   kind-numbered = (omega arith, tt)
+
+  -- none says "no room"
+  pub kind-not-12 : Without 12 (kindChecks kind p)
+  kind-not-12 = (λ e. omega arith, tt)
 
   pub kind-at : AllAt p (kindChecks kind p)
   kind-at = (refl, tt)
@@ -41,6 +45,9 @@ module _ (kind p : ℕ) where
 module _ (kind a p : ℕ) where
   pub annotation-numbered : Numbered (annotationChecks kind a p)
   annotation-numbered = (omega arith, tt)
+
+  pub annotation-not-12 : Without 12 (annotationChecks kind a p)
+  annotation-not-12 = (λ e. omega arith, tt)
 
   pub annotation-at : AllAt p (annotationChecks kind a p)
   annotation-at = (refl, tt)

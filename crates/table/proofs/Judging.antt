@@ -11,10 +11,10 @@ use borrow.Author.Tests.{lt-ltb, le-ltb, lt-leb, le-leb}
 use native.Mathlib.Omega.{arith}
 use Rattle.term.specs.Refusal.{Check, refuse, verdict, done, first}
 use Rattle.term.specs.Term.{isLegalTerm, isName, predicateChecks}
-use Rattle.term.proofs.Firsts.{Numbered, numbered-append, AllAt, at-append, first-stops, first-clear, first-place, first-holds, first-passes, number-alike}
+use Rattle.term.proofs.Firsts.{Numbered, numbered-append, Without, without-append, AllAt, at-append, first-stops, first-clear, first-place, first-holds, first-passes, number-alike}
 use Rattle.term.specs.declared.refusal.Verdict.{Verdict}
 use Rattle.annotation.specs.Kinds.{kindChecks, annotationChecks}
-use Rattle.annotation.proofs.Judged.{kind-numbered, kind-refused, annotation-numbered, annotation-at, annotation-alike}
+use Rattle.annotation.proofs.Judged.{kind-numbered, kind-not-12, kind-refused, annotation-numbered, annotation-not-12, annotation-at, annotation-alike}
 use Rattle.table.specs.Rows.{Row, Lanes, rowAt, keyAt}
 use Rattle.table.specs.Checks.{tripleChecks, rowChecks, rowsChecks, isNotAbove, isUnfit, tableChecks}
 
@@ -84,6 +84,22 @@ pub table-numbered : (kind : ℕ) (l : Lanes) (n : ℕ) → Numbered (tableCheck
 table-numbered kind l n =
     numbered-append (kindChecks kind 0) (refuse (isUnfit l) 11 0 ∷ refuse (ltb (length (l .subj)) n) 14 0 ∷ rowsChecks kind l 0 n) (kind-numbered kind 0)
     (omega arith, (omega arith, rows-numbered kind l 0 n))
+
+-- none of the table's checks says "no room": 12 is not among its numbers
+row-not-12 : (kind : ℕ) (l : Lanes) (i : ℕ) → Without 12 (rowChecks kind l i)
+row-not-12 kind l i =
+    without-append 12 (tripleChecks kind (rowAt l i) i) (orderCheck l i ∷ [])
+    (λ e. omega arith, (λ e. omega arith, annotation-not-12 kind (rowAt l i .a) i)) (λ e. omega arith, tt)
+
+rows-not-12 : (kind : ℕ) (l : Lanes) (i n : ℕ) → Without 12 (rowsChecks kind l i n)
+unfolding rowsChecks
+rows-not-12 kind l i zero = tt
+rows-not-12 kind l i (suc n) = without-append 12 (rowChecks kind l i) (rowsChecks kind l (suc i) n) (row-not-12 kind l i) (rows-not-12 kind l (suc i) n)
+
+pub table-not-12 : (kind : ℕ) (l : Lanes) (n : ℕ) → Without 12 (tableChecks kind l n)
+table-not-12 kind l n =
+    without-append 12 (kindChecks kind 0) (refuse (isUnfit l) 11 0 ∷ refuse (ltb (length (l .subj)) n) 14 0 ∷ rowsChecks kind l 0 n) (kind-not-12 kind 0)
+    (λ e. omega arith, (λ e. omega arith, rows-not-12 kind l 0 n))
 
 -- the number of a row: its triple's, then 15
 module _ (kind : ℕ) (l : Lanes) (i n : ℕ) (e : n ≡ first (tripleChecks kind (rowAt l i) 0) .number) where

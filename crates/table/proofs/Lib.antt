@@ -13,6 +13,7 @@ pub mod SameGraph
 pub mod Many
 pub mod Adds
 -- What is shown of the public calls.
+pub mod RowOrder
 pub mod CheckDetermined
 pub mod AddDetermined
 pub mod AddKeepsSound

@@ -1,10 +1,12 @@
 -- The table check: which table is refused, with what number and place.
+use mathlib.Core.Path.{_≡_}
 use mathlib.Core.Bool.{Bool, false, not, _&&_}
 use mathlib.Core.List.{List, [], _∷_, _++_}
 use Prim.Native.Nat.{ℕ, zero, suc}
 use lib.ListN.{length}
 use lib.Dec.{eqb, leb, ltb}
-use Rattle.term.specs.Refusal.{Check, refuse}
+use Rattle.term.specs.Refusal.{Check, refuse, first}
+use Rattle.term.specs.declared.refusal.Verdict.{Verdict}
 use Rattle.term.specs.Term.{isLegalTerm, isName}
 use Rattle.annotation.specs.Kinds.{kindChecks, annotationChecks}
 use Rattle.table.specs.Rows.{Row, Lanes, mostRows, rowAt, keyAt}
@@ -43,3 +45,7 @@ tableChecks kind l n =
     ++ (refuse (isUnfit l) 11 0
     ∷ refuse (ltb (length (l .subj)) n) 14 0
     ∷ rowsChecks kind l 0 n)
+
+-- what the table check answers
+abbrev pub Checking : ℕ → Lanes → ℕ → Verdict → Type 0
+Checking kind l n r = r ≡ first (tableChecks kind l n)

@@ -2,6 +2,7 @@
 pub mod Rows
 pub mod Checks
 pub mod Sound
+pub mod Order
 pub mod Adding
 pub mod Places
 pub mod Putting

@@ -3,9 +3,8 @@
 ghost use mathlib.Core.Path.{_≡_};
 ghost use Rattle.table.specs.Lent.{before, after};
 ghost use mathlib.Core.Bool.{cond};
-ghost use Rattle.term.specs.Refusal.{first};
 ghost use Rattle.table.specs.Rows.{row};
-ghost use Rattle.table.specs.Checks.{tableChecks};
+ghost use Rattle.table.specs.Checks.{Checking};
 ghost use Rattle.table.specs.Adding.{Adding};
 
 mod judge;
@@ -49,7 +48,7 @@ pub fn check(
     ann: &[u64],
     count: usize,
 ) -> Verdict
-    ensures { λ r. ⌜ r ≡ first (tableChecks kind (before subj pred obj ann) count) ⌝ }
+    ensures { λ r. ⌜ Checking kind (before subj pred obj ann) count r ⌝ }
 {
     if annotation::kind_refusal(kind) > 0 {
         return Verdict {

@@ -64,6 +64,24 @@ first-done (c ∷ cs) h e =
     let k = caught-or (c .when) c (first cs) (h .0) e in
     rw (k .0) (first-done cs (h .1) (k .1))
 
+-- no check has the number k, and so it is not given
+abbrev pub Without : ℕ → List Check → Type 0
+Without k [] = Unit {0}
+Without k (c ∷ cs) = (c .number ≡ k → ⊥) × Without k cs
+
+pub without-append : (k : ℕ) (cs ds : List Check) → Without k cs → Without k ds → Without k (cs ++ ds)
+without-append k [] ds h w = w
+without-append k (c ∷ cs) ds h w = (h .0, without-append k cs ds (h .1) w)
+
+pub never-given : (k : ℕ) (cs : List Check) → 0 < k → Without k cs → first cs .number ≡ k → ⊥
+unfolding first
+never-given k [] p h e = omega arith
+never-given k (c ∷ cs) p h e = go (c .when) (never-given k cs p (h .1)) e
+  where
+    go : (w : Bool) → (first cs .number ≡ k → ⊥) → cond w (verdict (c .number) (c .place)) (first cs) .number ≡ k → ⊥
+    go true ih q = h .0 q
+    go false ih q = ih q
+
 -- the checks all have the place p, and so has the number that they give
 abbrev pub AllAt : ℕ → List Check → Type 0
 AllAt p [] = Unit {0}
