@@ -1,4 +1,5 @@
--- What a done reading leaves is a sound table of the head's kind and base year; and a refusal's place is within the book. Assumes nothing.
+-- What a done reading gives are sound rows of the head's kind and base year, what it leaves in the lanes is a sound table; and a refusal's place is within the
+-- book. Assumes nothing.
 use mathlib.Core.Path.{_≡_, refl, sym, ap, _∙_}
 use mathlib.Core.Bool.{Bool, true, false, cond, not}
 use mathlib.Core.List.{List, [], _∷_, _++_}
@@ -12,13 +13,15 @@ use Rattle.term.specs.declared.refusal.Verdict.{Verdict}
 use Rattle.term.proofs.Firsts.{Numbered, AllAt, numbered-append, at-append, first-done, first-place, first-split, first-left, first-clear}
 use Rattle.annotation.specs.Kinds.{algebra, isKind, kindChecks}
 use Rattle.annotation.proofs.Judged.{kind-numbered, kind-at, passes-kind}
-use Rattle.table.specs.Rows.{Row, Lanes, addRow}
+use Rattle.table.specs.Rows.{Row, Lanes, AsLong, addRow, rowsOf, filled}
 use Rattle.table.specs.Checks.{isUnfit}
-use Rattle.table.specs.Sound.{LegalRow, Ascending, AllLegal, SoundRows}
+use Rattle.table.specs.Sound.{LegalRow, Sound, Ascending, AllLegal, SoundRows}
 use Rattle.table.proofs.Putting.{sound-add}
+use Rattle.table.proofs.Soundness.{fit-of, fit-within, rows-sound}
+use Rattle.table.proofs.Laid.{filled-as-long, filled-rows}
 use Rattle.field.specs.Fields.{isCut, tagAt, sizeAt, behind}
 use Rattle.book.specs.Format.{headLength, isBase, headEdition, headKind, headBase, headChecks, fieldChecks, rowIn, baseChecks}
-use Rattle.book.specs.Reading.{Read, refused, readAs, goOn, whenDone, whenMore, stepChecks, fieldsFrom, fieldsOf, readBook, longestBook, lendChecks, reading}
+use Rattle.book.specs.Reading.{Read, refused, readAs, goOn, whenDone, whenMore, stepChecks, fieldsFrom, fieldsOf, readBook, longestBook, lendChecks, reading, Reading}
 use Rattle.book.proofs.Contents.{field-numbered, field-at, field-legal}
 
 -- by cases: done, and what follows; or refused
@@ -164,3 +167,34 @@ reading-sound b l =
     (λ n.
     let p : first (lendChecks b l) .place ≡ 0 = ap (λ (v : Verdict). v .place) (first-place 0 (lendChecks b l) (refl, (refl, tt)) (omega (arith, n))) in
     refused-reads longestBook (length (l .subj)) (first (lendChecks b l)) (omega (arith, p)) n)
+
+-- "A table is sound when it passes the table check": the lanes that a done reading leaves, with its count, are a sound table of its kind
+module _ (b : List ℕ) (l m : Lanes) (place kind base count : ℕ) (read : Reading b l m 0 place kind base count) where
+  is-read : reading b l .verdict-of .number ≡ 0
+  is-read = ap (λ (v : Verdict). v .number) (sym (read .verdict-is))
+
+  pub lent-done : first (lendChecks b l) .number ≡ 0
+  lent-done =
+      when-done (λ r. r .verdict-of .number ≡ 0 → first (lendChecks b l) .number ≡ 0) (first (lendChecks b l)) (λ _. readBook b (length (l .subj)))
+      (λ z e. z) (λ n e. e) is-read
+
+  lanes-filled : m ≡ filled (reading b l .rows) l
+  lanes-filled = read .lanes-are ∙ rw (eq-eqb _ _ lent-done) refl
+
+  pub reading-leaves-sound : Sound kind m count
+  reading-leaves-sound =
+      let unfit = first-split 11 0 (isUnfit l) _ (omega arith) (first-done (lendChecks b l) (omega arith, (omega arith, tt)) lent-done) .0 in
+      let fit = fit-of kind l 0 unfit in
+      let r = reading-sound b l in
+      let room : length (reading b l .rows) ≤ length (l .subj) = r .fits is-read in
+      let within = fit-within kind l (length (reading b l .rows)) unfit room in
+      let long : AsLong l m = rw lanes-filled (filled-as-long (reading b l .rows) l within) in
+      let rows : rowsOf m count ≡ reading b l .rows = rw (lanes-filled, read .count-is) (filled-rows (reading b l .rows) l) in
+      rows-sound kind m count
+      (rw (read .kind-is) (r .head is-read .kind-known))
+      (long .same-pred ∙ fit .pred-long ∙ sym (long .same-subj))
+      (long .same-obj ∙ fit .obj-long ∙ sym (long .same-subj))
+      (long .same-ann ∙ fit .ann-long ∙ sym (long .same-subj))
+      (omega (arith, fit .long, long .same-subj))
+      (omega (arith, room, read .count-is, long .same-subj))
+      (rw (rows, read .kind-is) (r .sound is-read))
