@@ -1,6 +1,7 @@
 -- What a done closing leaves: a sound table that is the closure of the one that came, with zeros behind it; a closed table stays, and closing
--- twice is closing once. Assumes nothing.
+-- twice is closing once; and 12 is said exactly where the closure has more rows than the lanes. Assumes nothing.
 use mathlib.Core.Path.{_≡_, sym, ap, _∙_}
+use mathlib.Core.Logic.{_↔_}
 use mathlib.Core.List.{List}
 use Prim.Native.Nat.{ℕ, _≤_, _<_}
 use native.Mathlib.Decide.{decLt}
@@ -9,12 +10,12 @@ use lib.ListN.{length}
 use Rattle.ground.proofs.Tab.{tab-length}
 use Rattle.term.specs.Refusal.{first}
 use Rattle.term.specs.declared.refusal.Verdict.{Verdict}
-use Rattle.term.proofs.Firsts.{first-done}
+use Rattle.term.proofs.Firsts.{first-done, never-given}
 use Rattle.annotation.specs.Kinds.{algebra}
 use Rattle.table.specs.Rows.{Row, Lanes, rowAt, rowsOf, laid, filled, AsLong}
 use Rattle.table.specs.Checks.{tableChecks}
 use Rattle.table.specs.Sound.{Sound}
-use Rattle.table.proofs.Judging.{table-numbered}
+use Rattle.table.proofs.Judging.{table-numbered, table-not-12}
 use Rattle.table.proofs.Soundness.{passes-sound, sound-list, list-sound, sound-within, sound-as-long}
 use Rattle.table.proofs.Laid.{filled-rows, zeroed-alike, filled-as-long}
 use Rattle.rhodf.specs.Graph.{Graph, graphOf, Valued, Below}
@@ -112,3 +113,27 @@ close-twice-is-once kind l n m m′ place count number′ place′ count′ a b 
     let s = closed-table-stays kind m count m′ number′ place′ count′ (c .sound) (c .is-closed) b in
     let z = zeroed-alike (sound-as-long w (c .sound) (c .as-long)) in
     record { done-again = s .done-again; same-count = s .same-count; same-lanes = s .lanes-are ∙ ap (laid (rowsOf m count)) z ∙ sym (c .lanes-are) }
+
+-- "that table has more rows than the room lent": the closure of the sound table that came
+abbrev pub NoRoomFor : ℕ → Lanes → ℕ → Type 0
+NoRoomFor kind l n = Sound kind l n × (closed : List Row) × ClosureOf kind Rule (rowsOf l n) closed × (length (l .subj) < length closed)
+
+-- 'Closing says "no room" exactly when that table has more rows than the room lent': the table check never says 12
+module _ (kind : ℕ) (l : Lanes) (n : ℕ) (m : Lanes) (number place count : ℕ) (a : Closing kind l n m number place count) where
+  no-room-said : number ≡ 12 → NoRoomFor kind l n
+  no-room-said e = checked (decLt 0 (first (tableChecks kind l n) .number))
+    where
+      by-room : Sound kind l n → (closed : List Row) → ClosureOf kind Rule (rowsOf l n) closed → Dec (length (l .subj) < length closed) → NoRoomFor kind l n
+      by-room s closed c (yes h) = (s, closed, c, h)
+      by-room s closed c (no h) = absurd (omega (arith, ap (λ (v : Verdict). v .number) (a .fits s closed c (omega arith) .0)))
+
+      checked : Dec (0 < first (tableChecks kind l n) .number) → NoRoomFor kind l n
+      checked (yes h) =
+          absurd (never-given 12 (tableChecks kind l n) (omega arith) (table-not-12 kind l n) (sym (ap (λ (v : Verdict). v .number) (a .refused h .0)) ∙ e))
+      checked (no h) =
+          let s = passes-sound kind l n (first-done (tableChecks kind l n) (table-numbered kind l n) (omega arith)) in
+          let c = closure-exists kind (rowsOf l n) (sound-list s) in
+          by-room s (c .0) (c .1) (decLt (length (l .subj)) (length (c .0)))
+
+  pub no-room-exactly : (number ≡ 12) ↔ NoRoomFor kind l n
+  no-room-exactly = (no-room-said, λ w. ap (λ (v : Verdict). v .number) (a .no-room (w .0) (w .1) (w .2) (w .3) .0))
