@@ -1,17 +1,19 @@
--- "Any two results allowed coincide": the exported call gives one word and leaves one content of the output. Assumes nothing.
+-- "Any two results allowed coincide": an exported call gives one word and leaves one content of the output and of every lane. Assumes nothing.
 use mathlib.Core.Path.{_≡_, sym, _∙_}
 use mathlib.Core.List.{List}
 use Prim.Native.Nat.{ℕ, zero, suc, _≤_, _<_}
 use native.Mathlib.Decide.{decLt}
 use native.Mathlib.Omega.{arith}
 use lib.ListN.{length}
-use Rattle.table.specs.Rows.{Row}
+use Rattle.table.specs.Rows.{Row, Lanes}
+use Rattle.names.specs.Names.{NameLanes}
 use Rattle.rhodf.specs.Rules.{Rule}
 use Rattle.rhodf.specs.Closure.{ClosureOf}
 use Rattle.rhodf.proofs.Exists.{closure-exists}
 use Rattle.book.specs.Writing.{bookLength}
 use Rattle.book.proofs.ReadsSound.{reading-sound}
 use Rattle.trackvesper.specs.ClosedBook.{freshLanes, said, ClosedBook}
+use Rattle.trackvesper.specs.Triples.{ReadTriplesExported, WriteTriplesExported}
 
 module _ (b out x y : List ℕ) (r s : ℕ) (p : ClosedBook b out x r) (q : ClosedBook b out y s) where
   from-unread : 0 < said b .verdict-of .number → (r ≡ s) × (x ≡ y)
@@ -40,3 +42,13 @@ module _ (b out x y : List ℕ) (r s : ℕ) (p : ClosedBook b out x r) (q : Clos
 
   pub export-determined : (r ≡ s) × (x ≡ y)
   export-determined = from-read (decLt 0 (said b .verdict-of .number))
+
+-- makers' lists
+pub read-triples-determined : (kind a : ℕ) (file : List ℕ) (l m m′ : Lanes) (n k k′ : NameLanes) (r r′ : ℕ)
+    → ReadTriplesExported kind a file l m n k r → ReadTriplesExported kind a file l m′ n k′ r′ → (r ≡ r′) × (m ≡ m′) × (k ≡ k′)
+read-triples-determined kind a file l m m′ n k k′ r r′ p q =
+    (p .answer-is ∙ sym (q .answer-is), p .lanes-are ∙ sym (q .lanes-are), p .list-is ∙ sym (q .list-is))
+
+pub write-triples-determined : (kind : ℕ) (l : Lanes) (count : ℕ) (n : NameLanes) (names : ℕ) (out after after′ : List ℕ) (r r′ : ℕ)
+    → WriteTriplesExported kind l count n names out after r → WriteTriplesExported kind l count n names out after′ r′ → (r ≡ r′) × (after ≡ after′)
+write-triples-determined kind l count n names out after after′ r r′ p q = (p .answer-is ∙ sym (q .answer-is), p .out-is ∙ sym (q .out-is))

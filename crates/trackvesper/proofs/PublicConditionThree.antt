@@ -7,7 +7,8 @@ use native.Mathlib.Omega.{arith}
 use lib.ListN.{length, drop, length-append, length-map}
 use Rattle.question.specs.declared.records.StepRecord.{StepRecord}
 use Rattle.parts.specs.Part.{Part}
-use Rattle.question.specs.Steps.{Step}
+use Rattle.parts.specs.Writing.{partBytes, placed}
+use Rattle.question.specs.Steps.{Step, program}
 use Rattle.question.specs.Records.{recordOf}
 use Rattle.question.specs.Compiling.{Final, steps, refused, compiling}
 use Rattle.question.proofs.ZeroIsDone.{refusal-has-number}
@@ -18,9 +19,10 @@ use Rattle.table.specs.Sound.{Sound}
 use Rattle.machine.specs.Running.{answerRoom, isUnfitRoom, running, Ran}
 use Rattle.meaning.specs.AsMeant.{AsMeant, RunAsMeant}
 use Rattle.meaning.proofs.ConditionThree.{condition-three}
+use Rattle.meaning.proofs.Passing.{passes-compiles, passes-runs, compiles-passes, askable-compiles, askable-runs}
 use Rattle.steplist.specs.Filling.{Laid, Filling}
 use Rattle.steplist.specs.Asking.{askedFor, asking}
-use Rattle.trackvesper.specs.Answered.{Answered, EveryRunAnswers, PublicConditionThree, AskConditionThree}
+use Rattle.trackvesper.specs.Answered.{Answered, EveryRunAnswers, EveryAskAnswers, EveryCompileAnswers, PublicConditionThree, AskConditionThree, EveryPassingAnswered, EveryTreeAnswered, CheckPassesExactly}
 
 -- a compiling that answers 0 has steps, and they stand in front of the records
 pub record Steps (kind : ℕ) (s : List ℕ) (before after : List StepRecord) (count : ℕ) : Type 0 where
@@ -71,3 +73,30 @@ ask-answers kind s p st e h l n terms anns allowed number place answers looks te
 
 pub ask-condition-three : AskConditionThree
 ask-condition-three kind s st e = let w = condition-three kind s 48 st e in (w .0, w .1, w .2, ask-answers kind s (w .0) st e (w .3))
+
+-- ---- from "passes the check", and from the tree
+
+-- bytes that compile to steps, whatever records are lent
+module _ (kind : ℕ) (s : List ℕ) (p : Part) (st : List Step) (compiles : (room : ℕ) → 48 ≤ room → compiling kind s room ≡ steps st) (runs : RunAsMeant kind p st) where
+  compile-answers : EveryCompileAnswers kind p s
+  compile-answers before after number place count lends h =
+      let w : Laid number place count before after (steps st) = rw (compiles (length before) lends) at (h .comes-to) in
+      (w .0, runs-answer kind p st (drop (length st) before) after count (w .2) (w .3) runs)
+
+  asks-answer : EveryAskAnswers kind p s
+  asks-answer = ask-answers kind s p st (compiles 48 (omega arith)) runs
+
+pub every-passing-answered : EveryPassingAnswered
+every-passing-answered kind s p h = (compile-answers kind s p (program p) (passes-compiles kind s p h) (passes-runs kind s p h), asks-answer kind s p (program p) (passes-compiles kind s p h) (passes-runs kind s p h))
+
+pub every-tree-answered : EveryTreeAnswered
+every-tree-answered kind p h = (
+  compile-answers kind (partBytes p) p (program (placed 0 p)) (askable-compiles kind p h) (askable-runs kind p h),
+  asks-answer kind (partBytes p) p (program (placed 0 p)) (askable-compiles kind p h) (askable-runs kind p h),
+)
+
+pub check-passes-exactly : CheckPassesExactly
+check-passes-exactly kind s before after number place count known lends h = (
+  λ z. let w = steps-of kind s before after place count _ refl (rw z at (h .comes-to)) in compiles-passes kind s (length before) (w .st) known (w .compiles),
+  λ x. compile-answers kind s (x .0) (program (x .0)) (passes-compiles kind s (x .0) (x .1)) (passes-runs kind s (x .0) (x .1)) before after number place count lends h .0,
+)
