@@ -1,16 +1,18 @@
 -- The sets of subjects that rose: what is put in when a row is asked, and by the rows (D sp A). Assumes nothing.
-use mathlib.Core.Path.{_≡_, sym, _∙_}
+use mathlib.Core.Path.{_≡_, sym, subst, _∙_}
 use mathlib.Core.Bool.{Bool, true, false, true≢false}
 use mathlib.Core.List.{List}
-use Prim.Native.Nat.{ℕ, _+_, _≤_, _<_}
+use mathlib.Core.Logic.{_⊎_, inl, inr, ⊎-elim}
+use Prim.Native.Nat.{ℕ, suc, _+_, _≤_, _<_}
 use native.Mathlib.Omega.{arith}
 use lib.ListN.{getD}
 use borrow.Author.Count.{below-more}
 use Rattle.term.specs.Term.{sp}
 use Rattle.table.specs.Rows.{triple}
+use Rattle.table.proofs.Ordering.{Tri, less, same, more, tri}
 use Rattle.termset.specs.Termset.{holds, With}
 use Rattle.termset.proofs.Holding.{among-self, among-trans}
-use Rattle.rounds.specs.Due.{Still, Marked, Leads, NextDue, Spread}
+use Rattle.rounds.specs.Due.{Still, Marked, Leads, NextDue, LastDue, Sought, Spread}
 
 pub marked : {changed other : Bool} {x y : ℕ} {due due₁ due₂ rose rose₁ rose₂ : List ℕ}
     → With changed x due due₁ → With other y due₁ due₂ → With changed x rose rose₁ → With other y rose₁ rose₂ → Marked changed other x y due due₂ rose rose₂
@@ -40,6 +42,55 @@ module _ (subj pred obj : List ℕ) where
     reached = omega (arith, s .reached);
     none = λ j h q. below-more (λ (j : ℕ). from ≤ j → Still due (triple (getD subj j 0) (getD pred j 0) (getD obj j 0))) i
         (λ k p w. s .none k w p) (λ _. still) j q h;
+  }
+
+  pub last-none : (from : ℕ) (due : List ℕ) → LastDue subj pred obj from due from
+  last-none from due = record { reached = omega arith; none = λ j h k. absurd (omega arith) }
+
+  pub last-on : {from i at : ℕ} {due : List ℕ} → LastDue subj pred obj from due i → suc at ≡ i → Still due (triple (getD subj at 0) (getD pred at 0) (getD obj at 0))
+      → LastDue subj pred obj from due at
+  last-on {from} {i} {at} {due} s e still = record { reached = omega (arith, s .reached); none = λ j h q. go j q (tri at j) h }
+    where
+      go : (j : ℕ) → j < from → Tri at j → at ≤ j → Still due (triple (getD subj j 0) (getD pred j 0) (getD obj j 0))
+      go j q (less z) h = s .none j (omega arith) q
+      go j q (same z) h = subst (λ (k : ℕ). Still due (triple (getD subj k 0) (getD pred k 0) (getD obj k 0))) z still
+      go j q (more z) h = absurd (omega arith)
+
+  -- what is to come, going up to row `at` and down to it
+  pub up-to : {from at : ℕ} {due : List ℕ} → NextDue subj pred obj from due at → (j : ℕ) → from ≤ j → (at ≤ j) ⊎ Still due (triple (getD subj j 0) (getD pred j 0) (getD obj j 0))
+  up-to {from} {at} {due} s j h = go (tri j at)
+    where
+      go : Tri j at → (at ≤ j) ⊎ Still due (triple (getD subj j 0) (getD pred j 0) (getD obj j 0))
+      go (less z) = inr (s .none j h z)
+      go (same z) = inl (omega arith)
+      go (more z) = inl (omega arith)
+
+  pub down-to : {from end : ℕ} {due : List ℕ} → LastDue subj pred obj from due end → (j : ℕ) → j < from → (j < end) ⊎ Still due (triple (getD subj j 0) (getD pred j 0) (getD obj j 0))
+  down-to {from} {end} {due} s j h = go (tri j end)
+    where
+      go : Tri j end → (j < end) ⊎ Still due (triple (getD subj j 0) (getD pred j 0) (getD obj j 0))
+      go (less z) = inl z
+      go (same z) = inr (s .none j (omega arith) h)
+      go (more z) = inr (s .none j (omega arith) h)
+
+  -- the next row that is due, in either direction
+  pub sought-up : {turn n from r : ℕ} {due : List ℕ} → 0 < turn → NextDue subj pred obj from due r → Sought subj pred obj turn n from due r
+  sought-up {turn} {n} {from} {r} {due} u s = record {
+    reached = λ h. record { up = λ _. s .reached; down = λ e. absurd (omega arith) };
+    rest = λ j h t. ⊎-elim (λ q. inl (omega arith, record { up = λ _. q; down = λ e. absurd (omega arith) })) (λ q. inr q) (up-to s j (t .up u));
+  }
+
+  pub sought-down : {turn n from end r : ℕ} {due : List ℕ} → turn ≡ 0 → from ≤ n → LastDue subj pred obj from due end → end ≡ suc r → Sought subj pred obj turn n from due r
+  sought-down {turn} {n} {from} {end} {r} {due} e w s en = record {
+    reached = λ h. record { up = λ u. absurd (omega (arith, e, u)); down = λ _. omega (arith, en, s .reached) };
+    rest = λ j h t. ⊎-elim (λ q. inl (omega (arith, en, s .reached), record { up = λ u. absurd (omega (arith, e, u)); down = λ _. omega (arith, en) })) (λ q. inr q)
+        (down-to s j (t .down e));
+  }
+
+  pub sought-none : {turn n from : ℕ} {due : List ℕ} → turn ≡ 0 → LastDue subj pred obj from due 0 → Sought subj pred obj turn n from due n
+  sought-none {turn} {n} {from} {due} e s = record {
+    reached = λ h. absurd (omega arith);
+    rest = λ j h t. ⊎-elim (λ q. absurd (omega arith)) (λ q. inr q) (down-to s j (t .down e));
   }
 
   pub spread-none : (rose : List ℕ) → Spread subj pred obj 0 rose rose

@@ -5,7 +5,7 @@ use mathlib.Core.Path.{_≡_, refl, sym, subst, subst₂, _∙_}
 use mathlib.Core.Bool.{Bool, true, false, true≢false}
 use mathlib.Core.List.{List}
 use mathlib.Core.Logic.{_⊎_, inl, inr, ⊎-elim}
-use Prim.Native.Nat.{ℕ, _+_, _-_, _≤_, _<_}
+use Prim.Native.Nat.{ℕ, zero, suc, _+_, _-_, _≤_, _<_}
 use native.Mathlib.Omega.{arith}
 use lib.ListN.{length, replicate, length-replicate}
 use Rattle.ground.specs.Lists.{All}
@@ -30,30 +30,57 @@ use Rattle.plans.proofs.Meeting.{all-at, all-from, obeyed-lower}
 use Rattle.plans.proofs.Driven.{Driven, AllObeyed}
 use Rattle.walks.specs.Rising.{Risen, Drew, Either}
 use Rattle.walks.specs.Walks.{Known, Planned, Walked}
-use Rattle.walks.proofs.Rising.{some-either, risen-none, risen-then, drew-none, drew-so, drew-among, drew-full, goes-on, Passed, turn, which}
+use Rattle.walks.proofs.Rising.{some-either, risen-none, risen-then, drew-none, drew-so, drew-among, Passed, turn}
 use Rattle.walks.proofs.Neighbours.{row-value, row-below}
 use Rattle.walks.proofs.Walking.{planned-later}
-use Rattle.rounds.specs.Due.{Still, Quiet, OfRow, Sets, Strayed, Marked, RowsOfThree, NextDue, Spread}
+use Rattle.rounds.specs.Due.{Still, Quiet, OfRow, Sets, Strayed, Marked, RowsOfThree, ToCome, NotBefore, First, Onward, Spread}
 use Rattle.rounds.specs.Rounds.{tripleAt, RowObeyed, RowOfTable, RowDrawn, RowAsked, RoundDue, RoundDrawn, Saturated}
 use Rattle.rounds.proofs.Staying.{Staying}
-use Rattle.rounds.proofs.Settling.{still-before, Settled, settled-on}
+use Rattle.rounds.proofs.Settling.{Moved, still-before, Settled, settled-on}
 
 -- plan k of row i of l is obeyed in another table
 abbrev pub PlanPassed : (Triple → List Plan) → ℕ → Lanes → ℕ → Lanes → ℕ → ℕ → Type 0
 PlanPassed plans kind l i m n k = Obeyed (algebra kind) (graphOf (rowsOf m n)) (planAt (plans (tripleAt l i)) k) (rowAt l i .a)
 
--- what a round has done, before row i of the table as it is
-pub record SoFar (R : Rules) (plans : Triple → List Plan) (kind : ℕ) (due₀ : List ℕ) (l : Lanes) (n : ℕ) (m : Lanes) (changed : Bool) (n₁ : ℕ) (due rose : List ℕ) (i : ℕ) : Type 0 where
-  pub drew : Drew R kind (λ x. Unit {0}) (Passed (λ l n k. Still due₀ (tripleAt l k) ⊎ RowObeyed plans kind l n k) 0 i l n) l n m false changed n₁
+-- what a round has done, where the rows To of the table as it is are to come
+pub record SoFar (R : Rules) (plans : Triple → List Plan) (kind : ℕ) (due₀ : List ℕ) (l : Lanes) (n : ℕ) (m : Lanes) (changed : Bool) (n₁ : ℕ) (due rose : List ℕ) (To : ℕ → Type 0) : Type 0 where
+  pub drew : Drew R kind (λ x. Unit {0}) ((k : ℕ) → k < n → (To k → Still due₀ (tripleAt l k)) → RowObeyed plans kind l n k) l n m false changed n₁
   pub due-more : Among due₀ due
   pub sets : Sets due rose
-  pub settled : Settled plans kind due rose m n₁ i
+  pub settled : Settled plans kind due rose To m n₁
+
+pub rows-of-fewer : {kind : ℕ} {l : Lanes} {n i : ℕ} → Sound kind l n → i ≤ n → RowsOfThree (l .subj) (l .pred) (l .obj) i
+rows-of-fewer sound h = record {
+  in-subj = omega (arith, h, sound .within);
+  in-pred = omega (arith, h, sound .within, sound .pred-long);
+  in-obj = omega (arith, h, sound .within, sound .obj-long);
+}
 
 pub rows-of-three : {kind : ℕ} {l : Lanes} {n : ℕ} → Sound kind l n → RowsOfThree (l .subj) (l .pred) (l .obj) n
-rows-of-three sound = record {
-  in-subj = sound .within;
-  in-pred = omega (arith, sound .within, sound .pred-long);
-  in-obj = omega (arith, sound .within, sound .obj-long);
+rows-of-three sound = rows-of-fewer sound (omega arith)
+
+pub fewer-rows : {subj pred obj : List ℕ} {n i : ℕ} → RowsOfThree subj pred obj n → i ≤ n → RowsOfThree subj pred obj i
+fewer-rows r h = record { in-subj = omega (arith, r .in-subj); in-pred = omega (arith, r .in-pred); in-obj = omega (arith, r .in-obj) }
+
+-- what a round has left where it has come to i, of lanes so long and n rows
+abbrev pub roundLeft : ℕ → ℕ → ℕ → ℕ → ℕ
+roundLeft zero long n i = i + (long - n)
+roundLeft (suc turn) long n i = long - i
+
+pub left-falls : (turn : ℕ) {long n n₂ i at i₂ : ℕ} → (at < n → ToCome turn i at) → at < n → n ≤ n₂ → n₂ ≤ long → Onward turn at (n₂ - n) i₂
+    → roundLeft turn long n₂ i₂ < roundLeft turn long n i
+left-falls zero c h m w o = omega (arith, c h .down refl, h, m, w, o .down refl)
+left-falls (suc turn) c h m w o = omega (arith, c h .up (omega arith), h, m, w, o .up (omega arith))
+
+-- where the round began, and where it goes on behind row `at`
+pub first-all : {turn n i : ℕ} → First turn n i → (j : ℕ) → j < n → ToCome turn i j
+first-all f j h = record { up = λ u. omega (arith, f .up u); down = λ e. omega (arith, f .down e, h) }
+
+pub onward-comes : {turn n n₂ at i : ℕ} → n ≤ n₂ → Onward turn at (n₂ - n) i → (j k : ℕ) → Moved n n₂ j k → (j ≡ at → ⊥)
+    → (at < n) × NotBefore turn at j → ToCome turn i k
+onward-comes grew o j k place apart t = record {
+  up = λ u. omega (arith, o .up u, place .low, apart, t .1 .up u);
+  down = λ e. omega (arith, grew, o .down e, place .high, apart, t .1 .down e);
 }
 
 -- what rounds have done
@@ -143,64 +170,70 @@ module _ {R : Rules} {plans : Triple → List Plan} (driven : Driven R plans) {k
         rises h x (inl e) = rw e (k .self h)
         rises h x (inr w) = rw (w .1) (k .beside h (w .0))
 
-  -- every row that is due, one after another
-  pub round-start : {l : Lanes} {n : ℕ} {due rose : List ℕ} → RoundDue plans kind l n due → Sets due rose → SoFar R plans kind due l n l false n due rose 0
-  round-start {l} {n} {due} {rose} d sets = record {
-    drew = drew-none (d .sound) (record { reached = omega arith; passed = λ k h. absurd (omega arith) });
+  -- every row that is due, one after another: at first all are to come
+  pub round-start : {l : Lanes} {n : ℕ} {due rose : List ℕ} {To : ℕ → Type 0} → RoundDue plans kind l n due → Sets due rose → ((j : ℕ) → j < n → To j)
+      → SoFar R plans kind due l n l false n due rose To
+  round-start {l} {n} {due} {rose} {To} d sets all = record {
+    drew = drew-none (d .sound) (λ k h w. d .settled k h (w (all k h)));
     due-more = among-self due;
     sets = sets;
-    settled = λ j h q w. d .settled j h (w (omega arith));
+    settled = λ j h q w. d .settled j h (w (all j h));
   }
 
   -- rows that are not due are left alone
-  pub round-skip : {due₀ : List ℕ} {l : Lanes} {n : ℕ} {m : Lanes} {c : Bool} {n₁ : ℕ} {due rose : List ℕ} {i at : ℕ} → SoFar R plans kind due₀ l n m c n₁ due rose i
-      → NextDue (m .subj) (m .pred) (m .obj) i due at → SoFar R plans kind due₀ l n m c n₁ due rose at
-  round-skip {due₀} {l} {n} {m} {c} {n₁} {due} {rose} {i} {at} s next = record {
-    drew = drew-so (s .drew) (λ em en p. record { reached = omega arith; passed = λ k q. passes em p k q (tri k i) });
+  pub round-skip : {due₀ : List ℕ} {l : Lanes} {n : ℕ} {m : Lanes} {c : Bool} {n₁ : ℕ} {due rose : List ℕ} {To To′ : ℕ → Type 0}
+      → SoFar R plans kind due₀ l n m c n₁ due rose To → ((j : ℕ) → j < n₁ → To j → To′ j ⊎ Still due (tripleAt m j)) → SoFar R plans kind due₀ l n m c n₁ due rose To′
+  round-skip {due₀} {l} {n} {m} {c} {n₁} {due} {rose} {To} {To′} s left = record {
+    drew = drew-so (s .drew) (λ em en p k h w. p k h (λ t. ⊎-elim w (λ still. still-before (s .due-more) (subst (λ (x : Lanes). Still due (tripleAt x k)) em still)) (left k (rw en h) t)));
     due-more = s .due-more;
     sets = s .sets;
-    settled = λ j h quiet w. s .settled j h quiet (λ from. left j from (tri j at) w);
+    settled = λ j h quiet w. s .settled j h quiet (λ t. ⊎-elim w (λ still. still) (left j h t));
   }
-    where
-      passes : m ≡ l → Passed (λ l n k. Still due₀ (tripleAt l k) ⊎ RowObeyed plans kind l n k) 0 i l n → (k : ℕ) → k < at → Tri k i
-          → Still due₀ (tripleAt l k) ⊎ RowObeyed plans kind l n k
-      passes em p k q (less z) = p .passed k z
-      passes em p k q (same z) = inl (still-before (s .due-more) (subst (λ (x : Lanes). Still due (tripleAt x k)) em (next .none k (omega arith) q)))
-      passes em p k q (more z) = inl (still-before (s .due-more) (subst (λ (x : Lanes). Still due (tripleAt x k)) em (next .none k (omega arith) q)))
 
-      left : (j : ℕ) → i ≤ j → Tri j at → (at ≤ j → Still due (tripleAt m j)) → Still due (tripleAt m j)
-      left j from (less z) w = next .none j from z
-      left j from (same z) w = w (omega arith)
-      left j from (more z) w = w (omega arith)
-
-  module _ (staying : Staying plans) {due₀ : List ℕ} {l : Lanes} {n : ℕ} {m : Lanes} {c : Bool} {n₁ : ℕ} {due rose : List ℕ} {i : ℕ}
-      (s : SoFar R plans kind due₀ l n m c n₁ due rose i) {m₂ : Lanes} {f₂ c₂ : Bool} {n₂ : ℕ} {due₂ rose₂ : List ℕ} {c₃ : Bool} where
-    round-drew : RowAsked R plans kind m n₁ i m₂ f₂ c₂ n₂ due due₂ rose rose₂ → Either c c₂ c₃
-        → Drew R kind (λ x. Unit {0}) (Passed (λ l n k. Still due₀ (tripleAt l k) ⊎ RowObeyed plans kind l n k) 0 (i + 1) l n) l n m₂ f₂ c₃ n₂
-    round-drew a e = turn (s .drew) (drew-so (drew-among (a .drew) (λ _ x _. tt)) (λ _ _ o. inr o)) e
-
-    pub round-turn : i < n₁ → RowAsked R plans kind m n₁ i m₂ f₂ c₂ n₂ due due₂ rose rose₂ → f₂ ≡ false → Either c c₂ c₃
-        → SoFar R plans kind due₀ l n m₂ c₃ n₂ due₂ rose₂ (i + 1)
-    round-turn h a f e = record {
-      drew = goes-on (round-drew a e) f;
+  module _ (staying : Staying plans) {due₀ : List ℕ} {l : Lanes} {n : ℕ} {m : Lanes} {c : Bool} {n₁ : ℕ} {due rose : List ℕ} {To : ℕ → Type 0} {i : ℕ}
+      (s : SoFar R plans kind due₀ l n m c n₁ due rose To) {m₂ : Lanes} {f₂ c₂ : Bool} {n₂ : ℕ} {due₂ rose₂ : List ℕ} {c₃ : Bool}
+      (a : RowAsked R plans kind m n₁ i m₂ f₂ c₂ n₂ due due₂ rose rose₂) (e : Either c c₂ c₃) where
+    pub round-turn : f₂ ≡ false → {To′ : ℕ → Type 0} → ((j k : ℕ) → Moved n₁ n₂ j k → (j ≡ i → ⊥) → To j → To′ k)
+        → SoFar R plans kind due₀ l n m₂ c₃ n₂ due₂ rose₂ To′
+    round-turn f {To′} comes = record {
+      drew = record { risen = rw (← f) (risen-then (s .drew .risen) (a .drew .risen) e); kept = λ t no. absurd (no tt); inside = λ _ z. still z };
       due-more = among-trans (s .due-more) (a .due-more);
       sets = record { due-long = a .due-more .long ∙ s .sets .due-long; rose-long = a .rose-more .long ∙ s .sets .rose-long };
-      settled = settled-on staying h (s .drew .risen .sound) a f (s .settled);
+      settled = settled-on staying (s .drew .risen .sound) a f To To′ comes (s .settled);
     }
+      where
+        still : c₃ ≡ false → (k : ℕ) → k < n → (To′ k → Still due₀ (tripleAt l k)) → RowObeyed plans kind l n k
+        still z k h w = go (tri k i)
+          where
+            quiet : (c ≡ false) × (c₂ ≡ false)
+            quiet = e .neither z
 
-    pub round-full : RowAsked R plans kind m n₁ i m₂ f₂ c₂ n₂ due due₂ rose rose₂ → f₂ ≡ true → Either c c₂ c₃ → RoundDrawn R plans kind l n m₂ true c₃ n₂ rose₂
-    round-full a f e = record {
-      drew = drew-full (round-drew a e) f;
+            same-rows : (m ≡ l) × (n₁ ≡ n)
+            same-rows = s .drew .risen .still (quiet .0)
+
+            other : (k ≡ i → ⊥) → RowObeyed plans kind l n k
+            other apart = s .drew .inside refl (quiet .0) k h (λ t. w (comes k k (record { low = omega arith; high = omega (arith, a .drew .risen .more) }) apart t))
+
+            go : Tri k i → RowObeyed plans kind l n k
+            go (less q) = other (λ p. omega arith)
+            go (same q) = subst₂ (λ (x : Lanes) (y : ℕ). RowObeyed plans kind x y k) (same-rows .0) (same-rows .1)
+                (subst (λ (j : ℕ). RowObeyed plans kind m n₁ j) (sym q) (a .drew .inside f (quiet .1)))
+            go (more q) = other (λ p. omega arith)
+
+    pub round-full : f₂ ≡ true → RoundDrawn R plans kind l n m₂ true c₃ n₂ rose₂
+    round-full f = record {
+      drew = record { risen = rw (← f) (risen-then (s .drew .risen) (a .drew .risen) e); kept = λ t no. absurd (no tt); inside = λ z. absurd (true≢false z) };
       long = a .rose-more .long ∙ s .sets .rose-long;
       settled = λ z. absurd (true≢false z);
     }
 
-  pub round-end : {due₀ : List ℕ} {l : Lanes} {n : ℕ} {m : Lanes} {c : Bool} {n₁ : ℕ} {due rose : List ℕ} {i : ℕ} → RoundDue plans kind l n due₀
-      → SoFar R plans kind due₀ l n m c n₁ due rose i → n₁ ≤ i → RoundDrawn R plans kind l n m false c n₁ rose
-  round-end d s h = record {
-    drew = drew-so (s .drew) (λ _ en p j q. ⊎-elim (d .settled j q) (λ o. o) (p .passed j (omega (arith, en))));
+  -- none is to come
+  pub round-end : {due₀ : List ℕ} {l : Lanes} {n : ℕ} {m : Lanes} {c : Bool} {n₁ : ℕ} {due rose : List ℕ} {To : ℕ → Type 0}
+      → SoFar R plans kind due₀ l n m c n₁ due rose To → ((j : ℕ) → j < n₁ → To j → ⊥) → RoundDrawn R plans kind l n m false c n₁ rose
+  round-end s none = record {
+    drew = drew-so (s .drew) (λ _ en p j q. p j q (λ t. absurd (none j (rw en q) t)));
     long = s .sets .rose-long;
-    settled = λ _ j q quiet. s .settled j q quiet (λ w. absurd (omega arith));
+    settled = λ _ j q quiet. s .settled j q quiet (λ t. absurd (none j q t));
   }
 
   -- a table whose rows obey their plans is closed

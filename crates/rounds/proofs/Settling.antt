@@ -3,7 +3,7 @@ use mathlib.Core.Path.{_≡_, refl, sym, subst, _∙_}
 use mathlib.Core.Bool.{Bool, true, false, true≢false}
 use mathlib.Core.List.{List}
 use mathlib.Core.Logic.{_⊎_, inl, inr, ⊎-elim}
-use Prim.Native.Nat.{ℕ, zero, suc, _+_, _≤_, _<_}
+use Prim.Native.Nat.{ℕ, zero, suc, _+_, _-_, _≤_, _<_}
 use native.Mathlib.Omega.{arith}
 use Rattle.ground.specs.Lists.{All}
 use Rattle.term.specs.Term.{sp}
@@ -51,6 +51,11 @@ module _ {kind : ℕ} {l : Lanes} {n : ℕ} (sound : Sound kind l n) where
   pub row-positive : (j : ℕ) → j < n → 0 < graphOf (rowsOf l n) (tripleAt l j)
   row-positive j h = rw (row-held kind l n sound j h) (legal-value (rowAt l j .a) kind (sound .legal j h .annotation) .0)
 
+-- where row j of n may stand among n′, if rows were put in
+pub record Moved (n n′ j i : ℕ) : Type 0 where
+  pub low : j ≤ i
+  pub high : i + n ≤ j + n′
+
 -- a table that has risen
 module _ {kind : ℕ} {l : Lanes} {n : ℕ} {m : Lanes} {n′ : ℕ} (before : Sound kind l n) (after : Sound kind m n′)
     (up : Below (algebra kind) (graphOf (rowsOf l n)) (graphOf (rowsOf m n′))) where
@@ -79,16 +84,36 @@ module _ {kind : ℕ} {l : Lanes} {n : ℕ} {m : Lanes} {n′ : ℕ} (before : S
           absurd (omega (arith, eq, before .ascending j hj))
       go k w ek ih (more z) = absurd (omega (arith, climbs n′ (λ x. key (rowAt m x)) (after .ascending) k i z w, before .ascending j hj))
 
+  -- and with it those behind it: from the end, too
+  place-falls : (d j i : ℕ) → suc j + d ≡ n → i < n′ → key (rowAt l j) ≡ key (rowAt m i) → suc i + d ≤ n′
+  place-falls zero j i en hi e = omega arith
+  place-falls (suc d) j i en hi e =
+      let f = held-row n′ (rowAt m) (tripleAt l (suc j)) (above-positive (tripleAt l (suc j)) (row-positive before (suc j) (omega arith))) in
+      let r = f .is-row in
+      let ek : key (rowAt m (f .at)) ≡ key (rowAt l (suc j)) = rw (r .same-s, r .same-p, r .same-o) refl in
+      go (f .at) (f .within) ek (place-falls d (suc j) (f .at) (omega arith) (f .within) (sym ek)) (tri i (f .at))
+    where
+      go : (k : ℕ) → k < n′ → key (rowAt m k) ≡ key (rowAt l (suc j)) → suc k + d ≤ n′ → Tri i k → suc i + suc d ≤ n′
+      go k w ek ih (less z) = omega arith
+      go k w ek ih (same z) =
+          let eq : key (rowAt m i) ≡ key (rowAt m k) = rw z refl in
+          absurd (omega (arith, eq, before .ascending j (omega arith)))
+      go k w ek ih (more z) = absurd (omega (arith, climbs n′ (λ x. key (rowAt m x)) (after .ascending) i k z hi, before .ascending j (omega arith)))
+
+  moved : (j i : ℕ) → j < n → i < n′ → key (rowAt l j) ≡ key (rowAt m i) → Moved n n′ j i
+  moved j i hj hi e = record { low = place-grows j i hj hi e; high = let w = place-falls (n - suc j) j i (omega arith) hi e in omega (arith, w) }
+
 -- ---- what a round has settled
 
--- a row that meets nothing that rose obeys its plans, if it was passed or is not due
-abbrev pub Settled : (Triple → List Plan) → ℕ → List ℕ → List ℕ → Lanes → ℕ → ℕ → Type 0
-Settled plans kind due rose l n i =
-    (j : ℕ) → j < n → Quiet rose (graphOf (rowsOf l n)) (tripleAt l j) → (i ≤ j → Still due (tripleAt l j)) → RowObeyed plans kind l n j
+-- a row that meets nothing that rose obeys its plans, if it is not to come any more or is not due
+abbrev pub Settled : (Triple → List Plan) → ℕ → List ℕ → List ℕ → (ℕ → Type 0) → Lanes → ℕ → Type 0
+Settled plans kind due rose To l n =
+    (j : ℕ) → j < n → Quiet rose (graphOf (rowsOf l n)) (tripleAt l j) → (To j → Still due (tripleAt l j)) → RowObeyed plans kind l n j
 
+-- row i is asked; of the rows that are to come before, those are to come after, wherever they stand then
 module _ {R : Rules} {plans : Triple → List Plan} (staying : Staying plans) {kind : ℕ} {l : Lanes} {n i : ℕ} {m : Lanes} {full changed : Bool} {n′ : ℕ}
-    {due due′ rose rose′ : List ℕ} (there : i < n) (sound : Sound kind l n) (a : RowAsked R plans kind l n i m full changed n′ due due′ rose rose′)
-    (room : full ≡ false) (settled : Settled plans kind due rose l n i) where
+    {due due′ rose rose′ : List ℕ} (sound : Sound kind l n) (a : RowAsked R plans kind l n i m full changed n′ due due′ rose rose′)
+    (room : full ≡ false) (To To′ : ℕ → Type 0) (comes : (j k : ℕ) → Moved n n′ j k → (j ≡ i → ⊥) → To j → To′ k) (settled : Settled plans kind due rose To l n) where
   abbrev G : Graph
   G = graphOf (rowsOf l n)
 
@@ -100,16 +125,18 @@ module _ {R : Rules} {plans : Triple → List Plan} (staying : Staying plans) {k
       (λ t. absurd (true≢false (sym (a .again t) ∙ q .still .self)))
       (a .drew .inside room) (which changed)
 
-  passed : (j : ℕ) → j < n → Quiet rose′ H (tripleAt l j) → (i < j → Still due′ (tripleAt l j)) → RowObeyed plans kind l n j
+  passed : (j : ℕ) → j < n → Quiet rose′ H (tripleAt l j) → ((j ≡ i → ⊥) → To j → Still due′ (tripleAt l j)) → RowObeyed plans kind l n j
   passed j h q w = go (tri i j)
     where
-      go : Tri i j → RowObeyed plans kind l n j
-      go (less z) =
-          settled j h (quiet-before sound (a .drew .risen .sound) (a .drew .risen .up) (a .rose-more) q) (λ _. still-before (a .due-more) (w z))
-      go (same z) = subst (λ (k : ℕ). Quiet rose′ H (tripleAt l k) → RowObeyed plans kind l n k) z asked q
-      go (more z) = settled j h (quiet-before sound (a .drew .risen .sound) (a .drew .risen .up) (a .rose-more) q) (λ y. absurd (omega arith))
+      before : (j ≡ i → ⊥) → RowObeyed plans kind l n j
+      before other = settled j h (quiet-before sound (a .drew .risen .sound) (a .drew .risen .up) (a .rose-more) q) (λ t. still-before (a .due-more) (w other t))
 
-  pub settled-on : Settled plans kind due′ rose′ m n′ (i + 1)
+      go : Tri i j → RowObeyed plans kind l n j
+      go (less z) = before (λ e. omega arith)
+      go (same z) = subst (λ (k : ℕ). Quiet rose′ H (tripleAt l k) → RowObeyed plans kind l n k) z asked q
+      go (more z) = before (λ e. omega arith)
+
+  pub settled-on : Settled plans kind due′ rose′ To′ m n′
   settled-on j h q w =
       let t : Triple = tripleAt m j in
       let sound′ = a .drew .risen .sound in
@@ -118,9 +145,9 @@ module _ {R : Rules} {plans : Triple → List Plan} (staying : Staying plans) {k
       let r = f .is-row in
       let is : tripleAt l (f .at) ≡ t = λ k. triple (r .same-s k) (r .same-p k) (r .same-o k) in
       let ek : key (rowAt l (f .at)) ≡ key (rowAt m j) = rw (r .same-s, r .same-p, r .same-o) refl in
-      let low : f .at ≤ j = place-grows sound sound′ (a .drew .risen .up) (f .at) j (f .within) h ek in
+      let place : Moved n n′ (f .at) j = moved sound sound′ (a .drew .risen .up) (f .at) j (f .within) h ek in
       let o : RowObeyed plans kind l n (f .at) = passed (f .at) (f .within)
-      (subst (λ (u : Triple). Quiet rose′ H u) (sym is) q) (λ z. subst (λ (u : Triple). Still due′ u) (sym is) (w (omega (arith, z, low)))) in
+      (subst (λ (u : Triple). Quiet rose′ H u) (sym is) q) (λ other t. subst (λ (u : Triple). Still due′ u) (sym is) (w (comes (f .at) j place other t))) in
       let all : All (λ plan. Obeyed (algebra kind) G plan (rowAt l (f .at) .a)) (plans t)
       = subst (λ (u : Triple). All (λ plan. Obeyed (algebra kind) G plan (rowAt l (f .at) .a)) (plans u)) is o in
       subst (λ (v : ℕ). All (λ plan. Obeyed (algebra kind) H plan v) (plans t)) (sym (f .value-is) ∙ sym e ∙ row-held kind m n′ sound′ j h)

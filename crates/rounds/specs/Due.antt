@@ -3,7 +3,7 @@ use mathlib.Core.Path.{_≡_}
 use mathlib.Core.Bool.{Bool, true, false}
 use mathlib.Core.List.{List}
 use mathlib.Core.Logic.{_⊎_}
-use Prim.Native.Nat.{ℕ, _≤_, _<_}
+use Prim.Native.Nat.{ℕ, _+_, _≤_, _<_}
 use lib.ListN.{length, getD}
 use Rattle.term.specs.Term.{sp, dom}
 use Rattle.table.specs.Rows.{Triple, triple}
@@ -58,6 +58,38 @@ pub record RowsOfThree (subj pred obj : List ℕ) (n : ℕ) : Type 0 where
 pub record NextDue (subj pred obj : List ℕ) (from : ℕ) (due : List ℕ) (r : ℕ) : Type 0 where
   pub reached : from ≤ r
   pub none : (j : ℕ) → from ≤ j → j < r → Still due (triple (getD subj j 0) (getD pred j 0) (getD obj j 0))
+
+-- r is `from` or before it, and the rows from it up to there are not due
+pub record LastDue (subj pred obj : List ℕ) (from : ℕ) (due : List ℕ) (r : ℕ) : Type 0 where
+  pub reached : r ≤ from
+  pub none : (j : ℕ) → r ≤ j → j < from → Still due (triple (getD subj j 0) (getD pred j 0) (getD obj j 0))
+
+-- row j is to come, where a round that goes up (its turn is not 0) has come to row i, and one that goes down to the row before it
+pub record ToCome (turn i j : ℕ) : Type 0 where
+  pub up : 0 < turn → i ≤ j
+  pub down : turn ≡ 0 → j < i
+
+-- row j is row `at`, or comes after it in the round
+pub record NotBefore (turn at j : ℕ) : Type 0 where
+  pub up : 0 < turn → at ≤ j
+  pub down : turn ≡ 0 → j ≤ at
+
+-- a round that goes down begins among the rows
+pub record Seeking (turn n from : ℕ) : Type 0 where
+  pub down : turn ≡ 0 → from ≤ n
+
+-- of the rows that are to come, those before r are not due; r is not among the rows where none is
+pub record Sought (subj pred obj : List ℕ) (turn n from : ℕ) (due : List ℕ) (r : ℕ) : Type 0 where
+  pub reached : r < n → ToCome turn from r
+  pub rest : (j : ℕ) → j < n → ToCome turn from j → ((r < n) × NotBefore turn r j) ⊎ Still due (triple (getD subj j 0) (getD pred j 0) (getD obj j 0))
+
+pub record First (turn n r : ℕ) : Type 0 where
+  pub up : 0 < turn → r ≡ 0
+  pub down : turn ≡ 0 → r ≡ n
+
+pub record Onward (turn at more r : ℕ) : Type 0 where
+  pub up : 0 < turn → r ≡ at + 1
+  pub down : turn ≡ 0 → r ≡ at + more
 
 -- the set has grown by each D with a row (D sp A) among the first n and A in it
 pub record Spread (subj pred obj : List ℕ) (n : ℕ) (rose rose′ : List ℕ) : Type 0 where

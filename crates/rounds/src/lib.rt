@@ -1,15 +1,17 @@
 // Rounds: every rule at every row of a sound table that could give something new, again and again until a round changes nothing.
 // A row is asked again only if a row that it can meet has risen since. What rose is kept by subject, in two sets of terms
 // (8 KB each, on the stack): `rose` has what rose in this round, `due` what rose in the last one or so far in this.
+// From the fourth on, rounds go down and up by turns: what follows row by row comes in one round if it follows in its order.
 // Nothing is refused here; where a row finds no room, the caller is told (`full`).
 ghost use mathlib.Core.Path.{_≡_};
+ghost use Prim.Native.Nat.{_+_, _<_};
 ghost use lib.ListN.{length};
 ghost use Rattle.termset.specs.Termset.{words};
 ghost use Rattle.table.specs.Lent.{before, after, lent};
 ghost use Rattle.table.specs.Rows.{triple};
 ghost use Rattle.rhodf.specs.Rules.{Rule};
 ghost use Rattle.plans.specs.Plans.{plansFor};
-ghost use Rattle.rounds.specs.Due.{Sets, Strayed, MeetsNone, Marked, Leads, RowsOfThree, NextDue, Spread};
+ghost use Rattle.rounds.specs.Due.{Sets, Strayed, MeetsNone, Marked, Leads, RowsOfThree, NextDue, LastDue, Seeking, Sought, First, Onward, Spread};
 ghost use Rattle.rounds.specs.Rounds.{RowOfTable, RowDrawn, RowAsked, RoundDue, RoundDrawn, Saturated};
 ghost use Rattle.table.specs.Sound.{Sound};
 use plans::RULES;
@@ -147,6 +149,22 @@ fn next_due(
     i
 }
 
+// One behind the last row before `from` that is due, or 0.
+fn last_due(subj: &[u16], pred: &[u16], obj: &[u16], from: usize, due: &[u64; 1024]) -> usize
+    requires { ⌜ RowsOfThree (now subj) (now pred) (now obj) from ⌝ }
+    ensures { λ r. ⌜ LastDue (now (subj .entry)) (now (pred .entry)) (now (obj .entry)) from (now (due .entry)) r ⌝ }
+{
+    let mut i = from;
+    while 0 < i {
+        let at = i - 1;
+        if meets(due, subj[at], pred[at], obj[at]) {
+            return i;
+        }
+        i = at;
+    }
+    i
+}
+
 // Draws what row i gives, and puts what rose into both sets.
 fn ask_row(
     kind: u8,
@@ -175,8 +193,51 @@ fn ask_row(
     }
 }
 
-// Asks every row that is due.
+// The next row that is due, from `from` on or, going down, from the one before it; the count where there is none.
+fn seek(
+    turn: u8,
+    subj: &[u16],
+    pred: &[u16],
+    obj: &[u16],
+    count: usize,
+    from: usize,
+    due: &[u64; 1024],
+) -> usize
+    requires { ⌜ RowsOfThree (now subj) (now pred) (now obj) count × Seeking turn count from ⌝ }
+    ensures { λ r. ⌜ Sought (now (subj .entry)) (now (pred .entry)) (now (obj .entry)) turn count from (now (due .entry)) r ⌝ }
+{
+    if turn > 0 {
+        return next_due(subj, pred, obj, count, from, due);
+    }
+    let end = last_due(subj, pred, obj, from, due);
+    if end == 0 {
+        return count;
+    }
+    end - 1
+}
+
+// Where a round begins.
+fn first(turn: u8, count: usize) -> usize
+    ensures { λ r. ⌜ First turn count r ⌝ }
+{
+    if turn > 0 { 0 } else { count }
+}
+
+// Where a round goes on behind row `at`, going down before it. A row that is put in moves those behind it up: going down, the next one
+// to look at may have moved by as many as were put in.
+fn onward(turn: u8, at: usize, more: usize) -> usize
+    requires { ⌜ at + more < 4096 ⌝ }
+    ensures { λ r. ⌜ Onward turn at more r ⌝ }
+{
+    if turn > 0 {
+        return at + 1;
+    }
+    at + more
+}
+
+// Asks every row that is due: down where the turn is 0, else up. One round for both, so that asking is laid into it.
 fn round(
+    turn: u8,
     kind: u8,
     subj: &mut [u16],
     pred: &mut [u16],
@@ -192,9 +253,9 @@ fn round(
     let mut n = count;
     let mut changed = false;
     let mut near = 0;
-    let mut i = 0;
+    let mut i = first(turn, count);
     loop {
-        let at = next_due(subj, pred, obj, n, i, due);
+        let at = seek(turn, subj, pred, obj, n, i, due);
         if n <= at {
             return PutDone {
                 full: false,
@@ -204,6 +265,7 @@ fn round(
             };
         }
         let done = ask_row(kind, subj, pred, obj, ann, n, at, near, due, rose);
+        i = onward(turn, at, done.count - n);
         n = done.count;
         near = done.next;
         changed = either(changed, done.changed);
@@ -215,8 +277,12 @@ fn round(
                 next: near,
             };
         }
-        i = at + 1;
     }
+}
+
+// The turn of the next round: 3, 2, 1, and then 0 and 1 by turns.
+fn following(turn: u8) -> u8 {
+    if turn > 0 { turn - 1 } else { 1 }
 }
 
 // Whether a row with the predicate d and the object y is (D sp A), with A in the set.
@@ -262,8 +328,10 @@ pub fn saturate(
     let mut n = count;
     let mut due: [u64; 1024] = [18446744073709551615; 1024];
     let mut rose: [u64; 1024] = [0; 1024];
+    let mut turn: u8 = 3;
     loop {
-        let last = round(kind, subj, pred, obj, ann, n, &mut due, &mut rose);
+        let last = round(turn, kind, subj, pred, obj, ann, n, &mut due, &mut rose);
+        turn = following(turn);
         n = last.count;
         if last.full {
             return Reached {

@@ -1,128 +1,137 @@
--- The invariant: what a round promises, of the rows passed.
+-- The invariant: what a round promises, of the rows that are not to come; the measure: what it has left.
 use mathlib.Core.Path.{_∙_}
-use Prim.Native.Nat.{_-_}
+use Prim.Native.Nat.{_≤_, _<_}
 use native.Mathlib.Omega.{arith}
 use lib.ListN.{length}
 use Rattle.table.specs.Rows.{lanes}
 use Rattle.rhodf.specs.Rules.{Rule}
 use Rattle.plans.specs.Plans.{plansFor}
 use Rattle.plans.proofs.Obeying.{rhodf-driven}
+use Rattle.rounds.specs.Due.{ToCome, Seeking}
 use Rattle.rounds.proofs.Staying.{rhodf-staying}
-use Rattle.rounds.proofs.Rounding.{SoFar, rows-of-three, round-start, round-skip, round-turn, round-full, round-end}
+use Rattle.rounds.proofs.Rounding.{SoFar, roundLeft, left-falls, rows-of-three, round-start, round-skip, first-all, onward-comes, round-turn, round-full, round-end}
 use borrow.Author.Needs.{needs}
 use Rattle.rounds.proofs.round.Statement.{statement}
 use Rattle.rounds.proofs.round.Tie as tie
 
 abbrev Inv-loop : tie.InvT-loop
-Inv-loop kind subj₀ pred₀ obj₀ ann₀ count due₀ rose₀ n₀ changed₀ near₀ i₀ subj pred obj ann due rose n changed near i =
-    SoFar Rule plansFor kind due₀ (lanes subj₀ pred₀ obj₀ ann₀) count (lanes subj pred obj ann) changed n due rose i
+Inv-loop turn kind subj₀ pred₀ obj₀ ann₀ count due₀ rose₀ n₀ changed₀ near₀ i₀ subj pred obj ann due rose n changed near i =
+    SoFar Rule plansFor kind due₀ (lanes subj₀ pred₀ obj₀ ann₀) count (lanes subj pred obj ann) changed n due rose (ToCome turn i) × Seeking turn n i
 
 abbrev μ-loop : tie.MeasureT-loop
-μ-loop kind subj₀ pred₀ obj₀ ann₀ count due₀ rose₀ n₀ changed₀ near₀ i₀ subj pred obj ann due rose n changed near i =
-    length subj₀ - i
+μ-loop turn kind subj₀ pred₀ obj₀ ann₀ count due₀ rose₀ n₀ changed₀ near₀ i₀ subj pred obj ann due rose n changed near i =
+    roundLeft turn (length subj₀) n i
 
 loop-holds : tie.Need-loop-holds Inv-loop μ-loop
 loop-holds c =
-    let the-pre = c .before .before .before .before .pre in
-    round-start rhodf-driven (the-pre .0) (the-pre .1)
+    let the-pre = c .before .before .before .before .before .pre in
+    let the-first = c .first in
+    (round-start rhodf-driven (the-pre .0) (the-pre .1) (first-all (the-first .ensures)), record { down = λ e. omega (arith, the-first .ensures .down e) })
 
-next-due-requires : tie.Need-next-due-requires Inv-loop μ-loop
-next-due-requires c κs =
+seek-requires : tie.Need-seek-requires Inv-loop μ-loop
+seek-requires c κs =
     let the-loop = c .before .before .before .before .loop in
-    rows-of-three (the-loop .inv .drew .risen .sound)
+    (rows-of-three (the-loop .inv .0 .drew .risen .sound), the-loop .inv .1)
 
 same-length : tie.Need-same-length Inv-loop μ-loop
 same-length c =
     let the-loop = c .before .before .before .before .before .before .loop in
-    the-loop .inv .drew .risen .as-long .same-subj
+    the-loop .inv .0 .drew .risen .as-long .same-subj
 
 same-length-2 : tie.Need-same-length-2 Inv-loop μ-loop
 same-length-2 c =
     let the-loop = c .before .before .before .before .before .before .loop in
-    the-loop .inv .drew .risen .as-long .same-pred
+    the-loop .inv .0 .drew .risen .as-long .same-pred
 
 same-length-3 : tie.Need-same-length-3 Inv-loop μ-loop
 same-length-3 c =
     let the-loop = c .before .before .before .before .before .before .loop in
-    the-loop .inv .drew .risen .as-long .same-obj
+    the-loop .inv .0 .drew .risen .as-long .same-obj
 
 same-length-4 : tie.Need-same-length-4 Inv-loop μ-loop
 same-length-4 c =
     let the-loop = c .before .before .before .before .before .before .loop in
-    the-loop .inv .drew .risen .as-long .same-ann
+    the-loop .inv .0 .drew .risen .as-long .same-ann
 
 returns : tie.Need-returns Inv-loop μ-loop
 returns c =
-    let the-pre = c .before .before .before .before .before .before .before .before .before .before .before .pre in
     let the-loop = c .before .before .before .before .before .before .loop in
-    let the-next-due = c .before .next-due in
+    let the-seek = c .before .seek in
     let the-if1 = c .if1 in
-    round-end rhodf-driven (the-pre .0) (round-skip rhodf-driven (the-loop .inv) (the-next-due .ensures)) (the-if1 .taken)
+    round-end rhodf-driven (round-skip rhodf-driven (the-loop .inv .0) (the-seek .ensures .rest)) (λ j h t. omega (arith, t .0, the-if1 .taken))
 
 ask-row-requires : tie.Need-ask-row-requires Inv-loop μ-loop
 ask-row-requires c κs =
     let the-loop = c .before .before .before .before .before .before .before .before .before .before .before .before .loop in
     let the-if1 = c .before .before .before .before .before .before .if1 in
-    (record { sound = the-loop .inv .drew .risen .sound; there = omega (arith, the-if1 .left) }, the-loop .inv .sets)
+    (record { sound = the-loop .inv .0 .drew .risen .sound; there = omega (arith, the-if1 .left) }, the-loop .inv .0 .sets)
+
+sub-onward : tie.Need-sub-onward Inv-loop μ-loop
+sub-onward c =
+    let the-ask-row = c .before .before .before .before .before .before .before .before .before .ask-row in
+    omega (arith, the-ask-row .ensures .drew .risen .more)
+
+onward-requires : tie.Need-onward-requires Inv-loop μ-loop
+onward-requires c κs =
+    let the-if1 = c .before .before .before .before .before .before .before .before .before .before .before .before .before .before .before .before .if1 in
+    let the-ask-row = c .before .before .before .before .before .before .before .before .before .ask-row in
+    omega (arith, the-if1 .left, the-ask-row .ensures .drew .risen .sound .within, the-ask-row .ensures .drew .risen .sound .long)
 
 same-length-5 : tie.Need-same-length-5 Inv-loop μ-loop
 same-length-5 c =
-    let the-ask-row = c .before .before .before .before .before .before .before .before .before .before .ask-row in
-    let the-loop = c .before .before .before .before .before .before .before .before .before .before .before .before .before .before .before .before .before .before .before .before .before .before .before .loop in
-    the-ask-row .ensures .drew .risen .as-long .same-subj ∙ the-loop .inv .drew .risen .as-long .same-subj
+    let the-ask-row = c .before .before .before .before .before .before .before .before .before .before .before .before .ask-row in
+    let the-loop = c .before .before .before .before .before .before .before .before .before .before .before .before .before .before .before .before .before .before .before .before .before .before .before .before .before .loop in
+    the-ask-row .ensures .drew .risen .as-long .same-subj ∙ the-loop .inv .0 .drew .risen .as-long .same-subj
 
 same-length-6 : tie.Need-same-length-6 Inv-loop μ-loop
 same-length-6 c =
-    let the-ask-row = c .before .before .before .before .before .before .before .before .before .before .ask-row in
-    let the-loop = c .before .before .before .before .before .before .before .before .before .before .before .before .before .before .before .before .before .before .before .before .before .before .before .loop in
-    the-ask-row .ensures .drew .risen .as-long .same-pred ∙ the-loop .inv .drew .risen .as-long .same-pred
+    let the-ask-row = c .before .before .before .before .before .before .before .before .before .before .before .before .ask-row in
+    let the-loop = c .before .before .before .before .before .before .before .before .before .before .before .before .before .before .before .before .before .before .before .before .before .before .before .before .before .loop in
+    the-ask-row .ensures .drew .risen .as-long .same-pred ∙ the-loop .inv .0 .drew .risen .as-long .same-pred
 
 same-length-7 : tie.Need-same-length-7 Inv-loop μ-loop
 same-length-7 c =
-    let the-ask-row = c .before .before .before .before .before .before .before .before .before .before .ask-row in
-    let the-loop = c .before .before .before .before .before .before .before .before .before .before .before .before .before .before .before .before .before .before .before .before .before .before .before .loop in
-    the-ask-row .ensures .drew .risen .as-long .same-obj ∙ the-loop .inv .drew .risen .as-long .same-obj
+    let the-ask-row = c .before .before .before .before .before .before .before .before .before .before .before .before .ask-row in
+    let the-loop = c .before .before .before .before .before .before .before .before .before .before .before .before .before .before .before .before .before .before .before .before .before .before .before .before .before .loop in
+    the-ask-row .ensures .drew .risen .as-long .same-obj ∙ the-loop .inv .0 .drew .risen .as-long .same-obj
 
 same-length-8 : tie.Need-same-length-8 Inv-loop μ-loop
 same-length-8 c =
-    let the-ask-row = c .before .before .before .before .before .before .before .before .before .before .ask-row in
-    let the-loop = c .before .before .before .before .before .before .before .before .before .before .before .before .before .before .before .before .before .before .before .before .before .before .before .loop in
-    the-ask-row .ensures .drew .risen .as-long .same-ann ∙ the-loop .inv .drew .risen .as-long .same-ann
+    let the-ask-row = c .before .before .before .before .before .before .before .before .before .before .before .before .ask-row in
+    let the-loop = c .before .before .before .before .before .before .before .before .before .before .before .before .before .before .before .before .before .before .before .before .before .before .before .before .before .loop in
+    the-ask-row .ensures .drew .risen .as-long .same-ann ∙ the-loop .inv .0 .drew .risen .as-long .same-ann
 
 returns-2 : tie.Need-returns-2 Inv-loop μ-loop
 returns-2 c =
-    let the-loop = c .before .before .before .before .before .before .before .before .before .before .before .before .before .before .before .before .before .before .before .before .before .before .before .loop in
-    let the-next-due = c .before .before .before .before .before .before .before .before .before .before .before .before .before .before .before .before .before .before .next-due in
-    let the-ask-row = c .before .before .before .before .before .before .before .before .before .before .ask-row in
-    let the-if2 = c .if2 in
+    let the-loop = c .before .before .before .before .before .before .before .before .before .before .before .before .before .before .before .before .before .before .before .before .before .before .before .before .before .loop in
+    let the-seek = c .before .before .before .before .before .before .before .before .before .before .before .before .before .before .before .before .before .before .before .before .seek in
+    let the-ask-row = c .before .before .before .before .before .before .before .before .before .before .before .before .ask-row in
     let the-either = c .before .either in
-    round-full rhodf-driven rhodf-staying (round-skip rhodf-driven (the-loop .inv) (the-next-due .ensures)) (the-ask-row .ensures) (the-if2 .taken) (the-either .ensures)
-
-add-i : tie.Need-add-i Inv-loop μ-loop
-add-i c =
-    let the-if1 = c .before .before .before .before .before .before .before .before .before .before .before .before .before .before .before .before .before .if1 in
-    let the-loop = c .before .before .before .before .before .before .before .before .before .before .before .before .before .before .before .before .before .before .before .before .before .before .before .loop in
-    omega (arith, the-if1 .left, the-loop .inv .drew .risen .sound .within, the-loop .inv .drew .risen .sound .long)
+    let the-if2 = c .if2 in
+    round-full rhodf-driven rhodf-staying (round-skip rhodf-driven (the-loop .inv .0) (the-seek .ensures .rest)) (the-ask-row .ensures) (the-either .ensures) (the-if2 .taken)
 
 loop-less : tie.Need-loop-less Inv-loop μ-loop
 loop-less c =
-    let the-if1 = c .before .before .before .before .before .before .before .before .before .before .before .before .before .before .before .before .before .if1 in
-    let the-next-due = c .before .before .before .before .before .before .before .before .before .before .before .before .before .before .before .before .before .before .next-due in
-    let the-loop = c .before .before .before .before .before .before .before .before .before .before .before .before .before .before .before .before .before .before .before .before .before .before .before .loop in
-    omega (arith, the-if1 .left, the-next-due .ensures .reached, the-loop .inv .drew .risen .sound .within, the-loop .inv .drew .risen .as-long .same-subj)
+    let the-seek = c .before .before .before .before .before .before .before .before .before .before .before .before .before .before .before .before .before .before .before .before .seek in
+    let the-if1 = c .before .before .before .before .before .before .before .before .before .before .before .before .before .before .before .before .before .before .before .if1 in
+    let the-ask-row = c .before .before .before .before .before .before .before .before .before .before .before .before .ask-row in
+    let the-loop = c .before .before .before .before .before .before .before .before .before .before .before .before .before .before .before .before .before .before .before .before .before .before .before .before .before .loop in
+    let the-onward = c .before .before .onward in
+    left-falls _ (the-seek .ensures .reached) (omega (arith, the-if1 .left)) (the-ask-row .ensures .drew .risen .more) (omega (arith, the-ask-row .ensures .drew .risen .sound .within, the-ask-row .ensures .drew .risen .as-long .same-subj, the-loop .inv .0 .drew .risen .as-long .same-subj)) (the-onward .ensures)
 
 loop-again : tie.Need-loop-again Inv-loop μ-loop
 loop-again c =
-    let the-loop = c .before .before .before .before .before .before .before .before .before .before .before .before .before .before .before .before .before .before .before .before .before .before .before .loop in
-    let the-next-due = c .before .before .before .before .before .before .before .before .before .before .before .before .before .before .before .before .before .before .next-due in
-    let the-if1 = c .before .before .before .before .before .before .before .before .before .before .before .before .before .before .before .before .before .if1 in
-    let the-ask-row = c .before .before .before .before .before .before .before .before .before .before .ask-row in
-    let the-if2 = c .if2 in
+    let the-loop = c .before .before .before .before .before .before .before .before .before .before .before .before .before .before .before .before .before .before .before .before .before .before .before .before .before .loop in
+    let the-seek = c .before .before .before .before .before .before .before .before .before .before .before .before .before .before .before .before .before .before .before .before .seek in
+    let the-ask-row = c .before .before .before .before .before .before .before .before .before .before .before .before .ask-row in
     let the-either = c .before .either in
-    round-turn rhodf-driven rhodf-staying (round-skip rhodf-driven (the-loop .inv) (the-next-due .ensures)) (omega (arith, the-if1 .left)) (the-ask-row .ensures) (the-if2 .left) (the-either .ensures)
+    let the-if2 = c .if2 in
+    let the-onward = c .before .before .onward in
+    let the-if1 = c .before .before .before .before .before .before .before .before .before .before .before .before .before .before .before .before .before .before .before .if1 in
+    (round-turn rhodf-driven rhodf-staying (round-skip rhodf-driven (the-loop .inv .0) (the-seek .ensures .rest)) (the-ask-row .ensures) (the-either .ensures) (the-if2 .left) (onward-comes (the-ask-row .ensures .drew .risen .more) (the-onward .ensures)), record { down = λ e. omega (arith, the-onward .ensures .down e, the-if1 .left, the-ask-row .ensures .drew .risen .more) })
 
 pub round-spec : {M : Type 1} → statement M
 round-spec =
     tie.close
     (tie.spec
-    Inv-loop μ-loop loop-holds next-due-requires same-length same-length-2 same-length-3 same-length-4 returns ask-row-requires (λ c κs. search needs) same-length-5 same-length-6 same-length-7 same-length-8 returns-2 add-i loop-less loop-again)
+    Inv-loop μ-loop (λ c κs. search needs) loop-holds seek-requires same-length same-length-2 same-length-3 same-length-4 returns ask-row-requires sub-onward onward-requires (λ c κs. search needs) same-length-5 same-length-6 same-length-7 same-length-8 returns-2 loop-less loop-again)

@@ -14,11 +14,11 @@ use Rattle.rounds.proofs.saturate.Statement.{statement}
 use Rattle.rounds.proofs.saturate.Tie as tie
 
 abbrev Inv-loop : tie.InvT-loop
-Inv-loop kind subj₀ pred₀ obj₀ ann₀ count n₀ due₀ rose₀ subj pred obj ann n due rose =
+Inv-loop kind subj₀ pred₀ obj₀ ann₀ count n₀ due₀ rose₀ turn₀ subj pred obj ann n due rose turn =
     Rounded Rule plansFor kind (lanes subj₀ pred₀ obj₀ ann₀) count (lanes subj pred obj ann) n due rose
 
 abbrev μ-loop : tie.MeasureT-loop
-μ-loop kind subj₀ pred₀ obj₀ ann₀ count n₀ due₀ rose₀ subj pred obj ann n due rose =
+μ-loop kind subj₀ pred₀ obj₀ ann₀ count n₀ due₀ rose₀ turn₀ subj pred obj ann n due rose turn =
     mostTotal - total (rowsOf (lanes subj pred obj ann) n)
 
 loop-holds : tie.Need-loop-holds Inv-loop μ-loop
@@ -33,35 +33,35 @@ round-requires c κs =
 
 returns : tie.Need-returns Inv-loop μ-loop
 returns c =
-    let the-loop = c .before .before .before .before .before .before .before .before .before .before .before .before .before .before .before .before .loop in
-    let the-round = c .before .before .before .before .before .before .before .before .before .round in
+    let the-loop = c .before .before .before .before .before .before .before .before .before .before .before .before .before .before .before .before .before .loop in
+    let the-round = c .before .before .before .before .before .before .before .before .before .before .round in
     let the-if1 = c .if1 in
     saturated-full rhodf-driven (the-loop .inv) (the-round .ensures) (the-if1 .taken)
 
 returns-2 : tie.Need-returns-2 Inv-loop μ-loop
 returns-2 c =
-    let the-loop = c .before .before .before .before .before .before .before .before .before .before .before .before .before .before .before .before .before .before .loop in
-    let the-round = c .before .before .before .before .before .before .before .before .before .before .before .round in
+    let the-loop = c .before .before .before .before .before .before .before .before .before .before .before .before .before .before .before .before .before .before .before .loop in
+    let the-round = c .before .before .before .before .before .before .before .before .before .before .before .before .round in
     let the-if1 = c .before .before .if1 in
     let the-if2 = c .if2 in
     saturated-done rhodf-driven (the-loop .inv) (the-round .ensures) (the-if1 .left) (not-true _ (the-if2 .taken))
 
 spread-requires : tie.Need-spread-requires Inv-loop μ-loop
 spread-requires c κs =
-    let the-round = c .before .before .before .before .before .before .before .before .before .before .before .before .before .before .before .round in
+    let the-round = c .before .before .before .before .before .before .before .before .before .before .before .before .before .before .before .before .round in
     (rows-of-three (the-round .ensures .drew .risen .sound), the-round .ensures .long)
 
 loop-less : tie.Need-loop-less Inv-loop μ-loop
 loop-less c =
-    let the-loop = c .before .before .before .before .before .before .before .before .before .before .before .before .before .before .before .before .before .before .before .before .before .before .before .loop in
-    let the-round = c .before .before .before .before .before .before .before .before .before .before .before .before .before .before .before .before .round in
+    let the-loop = c .before .before .before .before .before .before .before .before .before .before .before .before .before .before .before .before .before .before .before .before .before .before .before .before .loop in
+    let the-round = c .before .before .before .before .before .before .before .before .before .before .before .before .before .before .before .before .before .round in
     let the-if2 = c .before .before .before .before .before .if2 in
     less-left rhodf-driven (the-loop .inv) (the-round .ensures) (not-false _ (the-if2 .left))
 
 loop-again : tie.Need-loop-again Inv-loop μ-loop
 loop-again c =
-    let the-loop = c .before .before .before .before .before .before .before .before .before .before .before .before .before .before .before .before .before .before .before .before .before .before .before .loop in
-    let the-round = c .before .before .before .before .before .before .before .before .before .before .before .before .before .before .before .before .round in
+    let the-loop = c .before .before .before .before .before .before .before .before .before .before .before .before .before .before .before .before .before .before .before .before .before .before .before .before .loop in
+    let the-round = c .before .before .before .before .before .before .before .before .before .before .before .before .before .before .before .before .before .round in
     let the-if1 = c .before .before .before .before .before .before .before .if1 in
     let the-spread = c .spread in
     rounds-go-on rhodf-driven (the-loop .inv) (the-round .ensures) (the-if1 .left) (the-spread .ensures) (length-replicate {A = ℕ} 1024 0)
@@ -70,4 +70,4 @@ pub saturate-spec : {M : Type 1} → statement M
 saturate-spec =
     tie.close
     (tie.spec
-    Inv-loop μ-loop loop-holds round-requires (λ c. search needs) (λ c. search needs) (λ c. search needs) (λ c. search needs) returns (λ c. search needs) (λ c. search needs) (λ c. search needs) (λ c. search needs) returns-2 spread-requires loop-less loop-again)
+    Inv-loop μ-loop loop-holds round-requires (λ c κs. search needs) (λ c. search needs) (λ c. search needs) (λ c. search needs) (λ c. search needs) returns (λ c. search needs) (λ c. search needs) (λ c. search needs) (λ c. search needs) returns-2 spread-requires loop-less loop-again)
