@@ -1,4 +1,5 @@
 -- Laws that belong to no one function.
+pub mod ReadAndClosed
 pub mod Exported
 pub mod ExportDetermined
 pub mod PublicConditionThree

@@ -1,0 +1,83 @@
+-- The document's listing holds, from its 41 bytes; so do the refusals for less room, of a cut book, of no book and of one that is too long. Assumes nothing.
+use mathlib.Core.Path.{_≡_, refl, _∙_}
+use mathlib.Core.List.{List, [], _∷_}
+use Prim.Native.Nat.{ℕ, _≤_, _<_}
+use native.Mathlib.Omega.{arith}
+use lib.ListN.{length, take}
+use borrow.Author.Tests.{lt-ltb}
+use Rattle.ground.specs.Lists.{tab, each}
+use Rattle.term.specs.Refusal.{verdict, first}
+use Rattle.annotation.specs.Kinds.{algebra, isKind}
+use Rattle.table.specs.Rows.{Row, row, Lanes, addRow}
+use Rattle.field.specs.Numbers.{twoAt, fourAt, eightAt}
+use Rattle.rhodf.specs.Rules.{Rule}
+use Rattle.rhodf.specs.Closure.{ClosureOf}
+use Rattle.rhodf.proofs.ExamplesHold.{examples-hold}
+use Rattle.book.specs.Format.{rowIn}
+use Rattle.book.specs.Reading.{readAs, refused, fieldsFrom, readBook, reading}
+use Rattle.printing.specs.Text.{bytesOf, decimalIn, decimal, line, closedListing, refusedLine}
+use Rattle.printing.specs.Examples.{p1Book}
+use Rattle.close_book.specs.Listed.{Listed}
+use Rattle.close_book.specs.Examples.{buffersOf, P1Listed, P1InRoomTwo, P1Cut, NoBook, LongBook}
+
+-- what a book of known contents prints
+module _ (l : Lanes) (b text : List ℕ) (p : Listed l b text) where
+  listed-as : (kind base : ℕ) (rows closed : List Row) → reading b l ≡ readAs kind base rows → ClosureOf kind Rule rows closed → length closed ≤ length (l .subj)
+      → text ≡ closedListing kind base closed
+  listed-as kind base rows closed e c q = (rw e at (p .closed)) refl closed c q
+
+  full-as : (kind base : ℕ) (rows closed : List Row) → reading b l ≡ readAs kind base rows → ClosureOf kind Rule rows closed → length (l .subj) < length closed
+      → text ≡ refusedLine 12 0
+  full-as kind base rows closed e c q = (rw e at (p .no-room)) refl closed c q
+
+  refused-as : (number place : ℕ) → reading b l ≡ refused (verdict number place) → 0 < number → text ≡ refusedLine number place
+  refused-as number place e h = (rw e at (p .unread)) h
+
+abbrev p1Rows : List Row
+p1Rows = row 10 2 11 120 ∷ row 11 1 12 2016 ∷ []
+
+abbrev p1Closed : List Row
+p1Closed = row 10 2 11 120 ∷ row 10 2 12 96 ∷ row 11 1 12 2016 ∷ []
+
+p1-read : reading p1Book (buffersOf 1024) ≡ readAs 1 2000 p1Rows
+unfolding first readBook fieldsFrom rowIn twoAt fourAt eightAt algebra isKind addRow
+p1-read = refl
+
+p1-text : closedListing 1 2000 p1Closed ≡ bytesOf "closed 1 2000 3\n10 2 11 120\n10 2 12 96\n11 1 12 2016\n"
+unfolding bytesOf line decimal decimalIn tab each
+p1-text = refl
+
+pub p1-listed : P1Listed
+p1-listed text p = listed-as (buffersOf 1024) p1Book text p 1 2000 p1Rows p1Closed p1-read (examples-hold .0) (omega arith) ∙ p1-text
+
+p1-read-in-two : reading p1Book (buffersOf 2) ≡ readAs 1 2000 p1Rows
+unfolding first readBook fieldsFrom rowIn twoAt fourAt eightAt algebra isKind addRow
+p1-read-in-two = refl
+
+pub p1-in-room-two : P1InRoomTwo
+unfolding bytesOf line decimal decimalIn tab each
+p1-in-room-two text p = full-as (buffersOf 2) p1Book text p 1 2000 p1Rows p1Closed p1-read-in-two (examples-hold .0) (omega arith)
+
+cut-read : reading (take 40 p1Book) (buffersOf 1024) ≡ refused (verdict 1 24)
+unfolding first readBook fieldsFrom rowIn twoAt fourAt eightAt algebra isKind addRow
+cut-read = refl
+
+pub p1-cut : P1Cut
+unfolding bytesOf line decimal decimalIn tab each
+p1-cut text p = refused-as (buffersOf 1024) (take 40 p1Book) text p 1 24 cut-read (omega arith)
+
+none-read : reading [] (buffersOf 1024) ≡ refused (verdict 2 0)
+unfolding first readBook fieldsFrom rowIn twoAt fourAt eightAt algebra isKind addRow
+none-read = refl
+
+pub no-book : NoBook
+unfolding bytesOf line decimal decimalIn tab each
+no-book text p = refused-as (buffersOf 1024) [] text p 2 0 none-read (omega arith)
+
+long-read : (b : List ℕ) → 65535 < length b → reading b (buffersOf 1024) ≡ refused (verdict 13 0)
+unfolding first
+long-read b h = rw (lt-ltb 65535 (length b) h) refl
+
+pub long-book : LongBook
+unfolding bytesOf line decimal decimalIn tab each
+long-book b h text p = refused-as (buffersOf 1024) b text p 13 0 (long-read b h) (omega arith)
