@@ -2,15 +2,15 @@
 use mathlib.Core.Path.{_≡_}
 use mathlib.Core.Bool.{Bool, true, false, cond}
 use mathlib.Core.List.{List}
-use Prim.Native.Nat.{ℕ, _+_, _≤_}
+use Prim.Native.Nat.{ℕ, _+_, _≤_, _<_}
 use lib.Dec.{ltb}
-use lib.ListN.{length, set}
+use lib.ListN.{length, getD, set}
 use lib.Seq.{slice, paste}
 use Rattle.names.specs.declared.Entered.{Entered}
 use Rattle.names.specs.declared.Entered.the-variants.{New, Full}
 use Rattle.names.specs.declared.find.Found.{Found}
 use Rattle.names.specs.declared.find.Found.the-variants.{Number, Missing}
-use Rattle.names.specs.Names.{Entry, NameLanes, lanesOf, startOf, entriesOf, textIn}
+use Rattle.names.specs.Names.{Entry, NameLanes, lanesOf, startOf, textAt, entriesOf, textIn}
 use Rattle.names.specs.Entering.{Lookup, none, number, lookup, known, countOf, nextOf, hasRoom, Listing, entriesAfter, countAfter}
 
 abbrev pub foundOf : Lookup → ℕ → Found
@@ -21,11 +21,27 @@ foundOf none k = Missing k
 abbrev pub numberFor : List Entry → ℕ → List ℕ → Found
 numberFor es sort word = foundOf (known es sort word) (nextOf es sort)
 
+-- where an entry's text stands
+pub record SpanAt (ends text : List ℕ) (i from to : ℕ) : Type 0 where
+  pub rises : from ≤ to
+  pub within : to ≤ length text
+  pub bytes : slice from to text ≡ textAt ends text i
+
 -- where a number's text stands; nowhere where it has none
 pub record SpanOf (l : NameLanes) (names n from to : ℕ) : Type 0 where
   pub rises : from ≤ to
   pub within : to ≤ length (l .text)
   pub bytes : slice from to (l .text) ≡ textIn (entriesOf l names) n
+
+-- no entry before one of them has a number
+abbrev pub NotBefore : List ℕ → ℕ → ℕ → ℕ → Type 0
+NotBefore terms names from n = (k : ℕ) → k < names → k < from → getD terms k 0 ≡ n → ⊥
+
+-- the first entry that has a number; how many there are where none has it
+pub record FirstWith (terms : List ℕ) (names n i : ℕ) : Type 0 where
+  pub within : i ≤ names
+  pub passed : NotBefore terms names i n
+  pub has : i < names → getD terms i 0 ≡ n
 
 -- an entry put behind the last
 abbrev pub appended : NameLanes → ℕ → ℕ → List ℕ → ℕ → NameLanes

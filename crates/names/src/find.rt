@@ -2,10 +2,8 @@
 ghost use mathlib.Core.Path.{_≡_};
 ghost use Prim.Native.Nat.{_≤_, _<_};
 ghost use lib.ListN.{length};
-ghost use lib.Seq.{slice};
-ghost use Rattle.names.specs.Names.{startOf, textAt, entriesOf};
-ghost use Rattle.names.specs.Lent.{namesBefore};
-ghost use Rattle.names.specs.Finding.{SpanOf};
+ghost use Rattle.names.specs.Names.{startOf};
+ghost use Rattle.names.specs.Finding.{SpanAt, NotBefore, FirstWith};
 use crate::Span;
 
 pub enum Found {
@@ -25,9 +23,9 @@ pub fn start_of(ends: &[u16], i: usize) -> usize
 }
 
 // Entry i's text, or no bytes where its ends do not fit.
-fn span_at(ends: &[u16], text: &[u8], i: usize) -> Span
+pub fn span_at(ends: &[u16], text: &[u8], i: usize) -> Span
     requires { ⌜ i < length (now ends) ⌝ }
-    ensures { λ r. ⌜ (r .from ≤ r .to) × (r .to ≤ length (now (text .entry))) × (slice (r .from) (r .to) (now (text .entry)) ≡ textAt (now (ends .entry)) (now (text .entry)) i) ⌝ }
+    ensures { λ r. ⌜ SpanAt (now (ends .entry)) (now (text .entry)) i (r .from) (r .to) ⌝ }
 {
     let from = start_of(ends, i);
     let to = ends[i] as usize;
@@ -40,17 +38,17 @@ fn span_at(ends: &[u16], text: &[u8], i: usize) -> Span
     Span { from, to }
 }
 
-// The text of the first entry with a number.
-pub fn text_of(terms: &[u16], ends: &[u16], text: &[u8], names: usize, n: u16) -> Span
-    requires { ⌜ (names ≤ length (now terms)) × (length (now ends) ≡ length (now terms)) ⌝ }
-    ensures { λ r. ⌜ SpanOf (namesBefore terms ends text) names n (r .from) (r .to) ⌝ }
+// The first entry with a number, which no entry before `from` has; `names` where none has it.
+pub fn entry_of(terms: &[u16], names: usize, from: usize, n: u16) -> usize
+    requires { ⌜ (names ≤ length (now terms)) × NotBefore (now terms) names from n ⌝ }
+    ensures { λ r. ⌜ FirstWith (now (terms .entry)) names n r ⌝ }
 {
-    let mut i = 0;
+    let mut i = from;
     while i < names {
         if terms[i] == n {
-            return span_at(ends, text, i);
+            return i;
         }
         i += 1;
     }
-    Span { from: 0, to: 0 }
+    names
 }

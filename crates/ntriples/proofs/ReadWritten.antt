@@ -216,7 +216,7 @@ module _ (kind a : ℕ) (file : List ℕ) (l : Lanes) (n : NameLanes) (out : Lis
   short = held kind a file l n d .kept .short
 
   equal : length (n .ends) ≡ length (n .terms)
-  equal = list-fit n 0 (list-fits kind a file l n d) (omega arith) .equal
+  equal = list-fit n (list-fits kind a file l n d) .equal
 
   entries-same : entriesOf list (length es) ≡ es
   entries-same = entries-are es n few short equal

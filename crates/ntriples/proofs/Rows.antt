@@ -1,12 +1,12 @@
 -- Which rows can be written, and the bytes of rows one behind another. Assumes nothing.
-use mathlib.Core.Path.{_≡_, refl, sym, ap, _∙_}
+use mathlib.Core.Path.{_≡_, refl, sym, ap, subst, _∙_}
 use mathlib.Core.Bool.{Bool, true, false, not, cond, _&&_, _||_}
 use mathlib.Core.List.{List, [], _∷_, _++_, append-assoc, append-nil}
 use Prim.Native.Nat.{ℕ, zero, suc, _+_, _-_, _≤_, _<_}
 use native.Mathlib.Numerals.{add-one}
 use native.Mathlib.Omega.{arith}
 use native.Mathlib.Decide.{decLt}
-use lib.ListN.{length, getD, take, drop, length-append, take-append-drop}
+use lib.ListN.{length, getD, set, take, drop, length-append, take-append-drop}
 use lib.Dec.{eqb}
 use borrow.Author.Tests.{eq-eqb, ne-eqb, le-ltb, not-false}
 use Rattle.ground.specs.Lists.{tab}
@@ -16,22 +16,52 @@ use Rattle.term.specs.Refusal.{Check, refuse, verdict, first}
 use Rattle.term.specs.Term.{sortOf}
 use Rattle.term.proofs.Firsts.{Numbered, first-holds, first-passes}
 use Rattle.table.specs.Rows.{Row, Lanes, lanes, row, rowAt, rowsOf}
-use Rattle.names.specs.Names.{Entry, NameLanes, entriesOf, textOf}
-use Rattle.names.specs.Finding.{SpanOf}
+use Rattle.names.specs.Names.{Entry, NameLanes, textAt, entriesOf}
+use Rattle.names.specs.Finding.{SpanAt, FirstWith}
+use Rattle.names.proofs.Looking.{first-text, first-none}
 use Rattle.ntwrite.specs.Written.{lineBytes}
 use Rattle.ntwrite.proofs.Pieces.{text-listed}
 use Rattle.nttext.specs.Texts.{isLegalText}
+use Rattle.nttext.proofs.LegalTexts.{empty-illegal}
 use Rattle.ntriples.specs.Writing.{hasText, isUnwritable, rowsWritable, fileBytes}
-use Rattle.ntriples.specs.Inner.{bare, linesBytes, Lowest}
-use lib.Seq.{slice}
+use Rattle.ntriples.specs.Inner.{markOf, Marked, bare, linesBytes, Lowest}
+use lib.Seq.{slice, getD-set-same, getD-set-other}
 
 -- ---- a term, and a row
 
--- the text that the list gives is judged by its sort
-pub listed-has-text : (l : NameLanes) (names n from to sort : ℕ) → 5 ≤ n → SpanOf l names n from to → sort ≡ sortOf n → (r : Bool) →
-    r ≡ isLegalText sort (slice from to (l .text)) → r ≡ hasText (entriesOf l names) n
-listed-has-text l names n from to sort high s e r h =
-    h ∙ ap (λ (t : List ℕ). isLegalText sort t) (s .bytes ∙ sym (text-listed (entriesOf l names) n high)) ∙ ap (λ (k : ℕ). isLegalText k (textOf (entriesOf l names) n)) e
+-- the first entry that has a number says whether its text is legal
+module _ (l : NameLanes) (names n i : ℕ) (high : 5 ≤ n) (first : FirstWith (l .terms) names n i) where
+  pub marked-has-text : i < names → (good : List ℕ) → Marked l names good → eqb (getD good i 0) 1 ≡ hasText (entriesOf l names) n
+  marked-has-text h good m =
+      ap (λ (k : ℕ). eqb k 1) (m .are i h) ∙ one (isLegalText (sortOf (getD (l .terms) i 0)) (textAt (l .ends) (l .text) i))
+      ∙ ap (λ (k : ℕ). isLegalText (sortOf k) (textAt (l .ends) (l .text) i)) (first .has h)
+      ∙ ap (isLegalText (sortOf n)) (sym (text-listed (entriesOf l names) n high ∙ first-text l names n i first h))
+    where
+      one : (b : Bool) → eqb (markOf b) 1 ≡ b
+      one true = refl
+      one false = refl
+
+  pub none-has-text : names ≤ i → false ≡ hasText (entriesOf l names) n
+  none-has-text h = sym (ap (isLegalText (sortOf n)) (text-listed (entriesOf l names) n high ∙ first-none l names n i first h) ∙ empty-illegal (sortOf n))
+
+-- the entries before i are judged
+abbrev pub MarkedTo : NameLanes → ℕ → List ℕ → Type 0
+MarkedTo l i good = (k : ℕ) → k < i → getD good k 0 ≡ markOf (isLegalText (sortOf (getD (l .terms) k 0)) (textAt (l .ends) (l .text) k))
+
+pub one-marked : (l : NameLanes) (i from to sort : ℕ) (good : List ℕ) (b : Bool) (m : ℕ) → i < length good → MarkedTo l i good →
+    SpanAt (l .ends) (l .text) i from to → sort ≡ sortOf (getD (l .terms) i 0) → b ≡ isLegalText sort (slice from to (l .text)) → m ≡ markOf b →
+    MarkedTo l (i + 1) (set good i m)
+one-marked l i from to sort good b m long old span e eb em k h = go (decLt k i)
+  where
+    is : m ≡ markOf (isLegalText (sortOf (getD (l .terms) i 0)) (textAt (l .ends) (l .text) i))
+    is = em ∙ ap markOf (eb ∙ ap (isLegalText sort) (span .bytes) ∙ ap (λ (s : ℕ). isLegalText s (textAt (l .ends) (l .text) i)) e)
+
+    go : Dec (k < i) → getD (set good i m) k 0 ≡ markOf (isLegalText (sortOf (getD (l .terms) k 0)) (textAt (l .ends) (l .text) k))
+    go (yes q) = getD-set-other good i k m 0 (λ (z : k ≡ i). omega arith) ∙ old k q
+    go (no q) =
+        let same : i ≡ k = omega arith in
+        subst (λ (j : ℕ). getD (set good i m) j 0 ≡ markOf (isLegalText (sortOf (getD (l .terms) j 0)) (textAt (l .ends) (l .text) j))) same
+        (getD-set-same good i m 0 long ∙ is)
 
 not-true : (b : Bool) → not b ≡ true → b ≡ false
 not-true true e = sym e

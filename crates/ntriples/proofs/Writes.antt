@@ -18,20 +18,25 @@ use Rattle.table.specs.Sound.{Sound}
 use Rattle.table.proofs.Judging.{table-numbered}
 use Rattle.table.proofs.Soundness.{passes-sound}
 use Rattle.names.specs.Names.{Entry, NameLanes, entriesOf, isUnfitList}
-use Rattle.ntwrite.specs.Written.{Fit}
+use Rattle.ntwrite.specs.Written.{Indexed}
 use Rattle.ntriples.specs.Writing.{rowsWritable, fileBytes, writeChecks, writeDone, WritingTriples}
 use Rattle.ntriples.specs.declared.TriplesWritten.{TriplesWritten}
 use Rattle.ntriples.specs.Inner.{refusedDone, linesBytes, Judged, Lowest}
 use Rattle.ntriples.proofs.Rows.{file-is, lowest-stops, lowest-passes}
 
--- lanes of a list that 11 and 14 let pass
-pub list-fit : (n : NameLanes) (names : ℕ) → isUnfitList n ≡ false → names ≤ length (n .terms) → Fit n names
-list-fit n names e h =
+-- lanes of a list that 11 lets pass
+pub record ListFit (n : NameLanes) : Type 0 where
+  pub equal : length (n .ends) ≡ length (n .terms)
+  pub few : length (n .terms) ≤ 512
+  pub short : length (n .text) ≤ 32768
+
+pub list-fit : (n : NameLanes) → isUnfitList n ≡ false → ListFit n
+list-fit n e =
     let a = neither (not (eqb (length (n .terms)) (length (n .ends)))) (ltb 512 (length (n .terms)) || ltb 32768 (length (n .text))) e in
     let b = neither (ltb 512 (length (n .terms))) (ltb 32768 (length (n .text))) (a .1) in
     record {
-      room = h;
       equal = sym (eqb-true (length (n .terms)) (length (n .ends)) (not-false (eqb (length (n .terms)) (length (n .ends))) (a .0)));
+      few = ltb-false 512 (length (n .terms)) (b .0);
       short = ltb-false 32768 (length (n .text)) (b .1);
     }
 
@@ -93,15 +98,22 @@ module _ (kind : ℕ) (l : Lanes) (count : ℕ) (n : NameLanes) (names : ℕ) (o
             past-count : first (writeChecks kind l count n names out) ≡ first rows
             past-count = past-lanes ∙ first-passes (ltb (length (n .terms)) names) 14 0 rows (le-ltb (length (n .terms)) names few)
 
-            pub to-judged : Judged n names (l .subj) (l .pred) (l .obj) count
-            to-judged =
+            pub few-names : names ≤ 512
+            few-names = let f = list-fit n (sym eu ∙ fit) in let k = f .few in omega arith
+
+            pub equal-lanes : length (n .ends) ≡ length (n .terms)
+            equal-lanes = list-fit n (sym eu ∙ fit) .equal
+
+            pub to-judged : (slots : List ℕ) → Indexed slots (n .terms) names → Judged n names slots (l .subj) (l .pred) (l .obj) count
+            to-judged slots index =
                 let s = sound in
+                let f = list-fit n (sym eu ∙ fit) in
                 let w = s .within in
                 let p = s .pred-long in
                 let o = s .obj-long in
                 let k = s .long in
                 record {
-                  fit = list-fit n names (sym eu ∙ fit) few;
+                  fit = record { room = few; equal = f .equal; short = f .short; index = index };
                   in-subj = w;
                   in-pred = omega arith;
                   in-obj = omega arith;

@@ -35,7 +35,7 @@ module _ (es : List Entry) (n : ℕ) where
   pub size-five : n < 5 → (r : ℕ) → r ≡ length (fiveText n) → (r ≡ length (textOf es n)) × (r ≤ 32768)
   size-five h r e = let s = five-small n in (e ∙ ap length (sym (text-five h)), omega arith)
 
-module _ (l : NameLanes) (names n from to : ℕ) (fit : Fit l names) (s : SpanOf l names n from to) (high : 5 ≤ n) where
+module _ (l : NameLanes) (names n from to : ℕ) {slots : List ℕ} (fit : Fit l names slots) (s : SpanOf l names n from to) (high : 5 ≤ n) where
   text-is : slice from to (l .text) ≡ textOf (entriesOf l names) n
   text-is = s .bytes ∙ sym (text-listed (entriesOf l names) n high)
 

@@ -1,12 +1,15 @@
 // What writing a table as N-Triples writes of a term and of a row, and how long it is. Whether every term has a text, and whether
 // the output has room, is asked before.
 ghost use mathlib.Core.Path.{_≡_};
-ghost use Prim.Native.Nat.{_+_, _≤_};
+ghost use Prim.Native.Nat.{_≤_};
 ghost use lib.ListN.{length};
-ghost use Rattle.field.specs.Numbers.{written};
 ghost use Rattle.names.specs.Names.{entriesOf, textOf};
 ghost use Rattle.names.specs.Lent.{namesLent, namesBefore};
-ghost use Rattle.ntwrite.specs.Written.{Fit, termBytes, partBytes, lineBytes};
+ghost use Rattle.ntwrite.specs.Written.{Fit, FitInto, LaidFrom, termBytes, partBytes, lineBytes};
+
+pub mod index;
+
+use crate::index::text_by;
 
 const OPENS: u8 = 60;
 
@@ -22,14 +25,14 @@ const DOT: u8 = 46;
 
 const LF: u8 = 10;
 
-fn text_size(terms: &[u16], ends: &[u16], text: &[u8], names: usize, n: u16) -> usize
-    requires { ⌜ Fit (namesLent terms ends text) names ⌝ }
+fn text_size(terms: &[u16], ends: &[u16], text: &[u8], names: usize, slots: &[u16], n: u16) -> usize
+    requires { ⌜ Fit (namesLent terms ends text) names (now slots) ⌝ }
     ensures { λ r. ⌜ (r ≡ length (textOf (entriesOf (namesBefore terms ends text) names) n)) × (r ≤ 32768) ⌝ }
 {
     if n < names::five::NONE {
         return names::five::size_of(n);
     }
-    let span = names::find::text_of(terms, ends, text, names, n);
+    let span = text_by(terms, ends, text, names, slots, n);
     span.to - span.from
 }
 
@@ -41,16 +44,17 @@ fn put_text(
     ends: &[u16],
     text: &[u8],
     names: usize,
+    slots: &[u16],
     n: u16,
 ) -> usize
-    requires { ⌜ Fit (namesLent terms ends text) names × (at + length (textOf (entriesOf (namesLent terms ends text) names) n) ≤ length (now out)) ⌝ }
-    ensures { λ r. ⌜ (now (out .exit) ≡ written (now (out .entry)) at (textOf (entriesOf (namesBefore terms ends text) names) n)) × (r ≡ at + length (textOf (entriesOf (namesBefore terms ends text) names) n)) ⌝ }
+    requires { ⌜ FitInto (namesLent terms ends text) names (now slots) (now out) at (λ es. textOf es n) ⌝ }
+    ensures { λ r. ⌜ LaidFrom (namesBefore terms ends text) names (now (out .entry)) (now (out .exit)) at r (λ es. textOf es n) ⌝ }
 {
     if n < names::five::NONE {
         names::five::put_five(out, at, n);
         return at + names::five::size_of(n);
     }
-    let span = names::find::text_of(terms, ends, text, names, n);
+    let span = text_by(terms, ends, text, names, slots, n);
     let from = span.from;
     let size = span.to - from;
     names::texts::put(out, at, &text[from..], size);
@@ -58,11 +62,18 @@ fn put_text(
 }
 
 // How many bytes a term takes.
-pub fn term_size(terms: &[u16], ends: &[u16], text: &[u8], names: usize, n: u16) -> usize
-    requires { ⌜ Fit (namesLent terms ends text) names ⌝ }
+pub fn term_size(
+    terms: &[u16],
+    ends: &[u16],
+    text: &[u8],
+    names: usize,
+    slots: &[u16],
+    n: u16,
+) -> usize
+    requires { ⌜ Fit (namesLent terms ends text) names (now slots) ⌝ }
     ensures { λ r. ⌜ (r ≡ length (termBytes (entriesOf (namesBefore terms ends text) names) n)) × (r ≤ 32770) ⌝ }
 {
-    let size = text_size(terms, ends, text, names, n);
+    let size = text_size(terms, ends, text, names, slots, n);
     if term::sort_of(n) < term::LITERAL {
         return size + 2;
     }
@@ -77,23 +88,24 @@ fn put_term(
     ends: &[u16],
     text: &[u8],
     names: usize,
+    slots: &[u16],
     n: u16,
 ) -> usize
-    requires { ⌜ Fit (namesLent terms ends text) names × (at + length (termBytes (entriesOf (namesLent terms ends text) names) n) ≤ length (now out)) ⌝ }
-    ensures { λ r. ⌜ (now (out .exit) ≡ written (now (out .entry)) at (termBytes (entriesOf (namesBefore terms ends text) names) n)) × (r ≡ at + length (termBytes (entriesOf (namesBefore terms ends text) names) n)) ⌝ }
+    requires { ⌜ FitInto (namesLent terms ends text) names (now slots) (now out) at (λ es. termBytes es n) ⌝ }
+    ensures { λ r. ⌜ LaidFrom (namesBefore terms ends text) names (now (out .entry)) (now (out .exit)) at r (λ es. termBytes es n) ⌝ }
 {
     let sort = term::sort_of(n);
     if sort == term::NAME {
         out[at] = OPENS;
-        let end = put_text(out, at + 1, terms, ends, text, names, n);
+        let end = put_text(out, at + 1, terms, ends, text, names, slots, n);
         out[end] = CLOSES;
         return end + 1;
     }
     if sort == term::BLANK {
         field::put_pair(out, at, UNDERSCORE, COLON);
-        return put_text(out, at + 2, terms, ends, text, names, n);
+        return put_text(out, at + 2, terms, ends, text, names, slots, n);
     }
-    put_text(out, at, terms, ends, text, names, n)
+    put_text(out, at, terms, ends, text, names, slots, n)
 }
 
 // A term and the blank behind it; where the next begins.
@@ -104,12 +116,13 @@ fn put_part(
     ends: &[u16],
     text: &[u8],
     names: usize,
+    slots: &[u16],
     n: u16,
 ) -> usize
-    requires { ⌜ Fit (namesLent terms ends text) names × (at + length (partBytes (entriesOf (namesLent terms ends text) names) n) ≤ length (now out)) ⌝ }
-    ensures { λ r. ⌜ (now (out .exit) ≡ written (now (out .entry)) at (partBytes (entriesOf (namesBefore terms ends text) names) n)) × (r ≡ at + length (partBytes (entriesOf (namesBefore terms ends text) names) n)) ⌝ }
+    requires { ⌜ FitInto (namesLent terms ends text) names (now slots) (now out) at (λ es. partBytes es n) ⌝ }
+    ensures { λ r. ⌜ LaidFrom (namesBefore terms ends text) names (now (out .entry)) (now (out .exit)) at r (λ es. partBytes es n) ⌝ }
 {
-    let end = put_term(out, at, terms, ends, text, names, n);
+    let end = put_term(out, at, terms, ends, text, names, slots, n);
     out[end] = BLANK;
     end + 1
 }
@@ -120,16 +133,17 @@ pub fn line_size(
     ends: &[u16],
     text: &[u8],
     names: usize,
+    slots: &[u16],
     s: u16,
     p: u16,
     o: u16,
 ) -> usize
-    requires { ⌜ Fit (namesLent terms ends text) names ⌝ }
+    requires { ⌜ Fit (namesLent terms ends text) names (now slots) ⌝ }
     ensures { λ r. ⌜ (r ≡ length (lineBytes (entriesOf (namesBefore terms ends text) names) s p o)) × (r ≤ 98315) ⌝ }
 {
-    let subject = term_size(terms, ends, text, names, s);
-    let predicate = term_size(terms, ends, text, names, p);
-    let object = term_size(terms, ends, text, names, o);
+    let subject = term_size(terms, ends, text, names, slots, s);
+    let predicate = term_size(terms, ends, text, names, slots, p);
+    let object = term_size(terms, ends, text, names, slots, o);
     subject + predicate + object + 5
 }
 
@@ -141,16 +155,17 @@ pub fn put_line(
     ends: &[u16],
     text: &[u8],
     names: usize,
+    slots: &[u16],
     s: u16,
     p: u16,
     o: u16,
 ) -> usize
-    requires { ⌜ Fit (namesLent terms ends text) names × (at + length (lineBytes (entriesOf (namesLent terms ends text) names) s p o) ≤ length (now out)) ⌝ }
-    ensures { λ r. ⌜ (now (out .exit) ≡ written (now (out .entry)) at (lineBytes (entriesOf (namesBefore terms ends text) names) s p o)) × (r ≡ at + length (lineBytes (entriesOf (namesBefore terms ends text) names) s p o)) ⌝ }
+    requires { ⌜ FitInto (namesLent terms ends text) names (now slots) (now out) at (λ es. lineBytes es s p o) ⌝ }
+    ensures { λ r. ⌜ LaidFrom (namesBefore terms ends text) names (now (out .entry)) (now (out .exit)) at r (λ es. lineBytes es s p o) ⌝ }
 {
-    let second = put_part(out, at, terms, ends, text, names, s);
-    let third = put_part(out, second, terms, ends, text, names, p);
-    let last = put_part(out, third, terms, ends, text, names, o);
+    let second = put_part(out, at, terms, ends, text, names, slots, s);
+    let third = put_part(out, second, terms, ends, text, names, slots, p);
+    let last = put_part(out, third, terms, ends, text, names, slots, o);
     field::put_pair(out, last, DOT, LF);
     last + 2
 }

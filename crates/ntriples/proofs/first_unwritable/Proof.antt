@@ -13,37 +13,37 @@ use Rattle.ntriples.proofs.first_unwritable.Statement.{statement}
 use Rattle.ntriples.proofs.first_unwritable.Tie as tie
 
 abbrev Inv-loop : tie.InvT-loop
-Inv-loop subj pred obj count terms ends text names i₀ i =
+Inv-loop subj pred obj count terms ends text names slots marks i₀ i =
     (i ≤ count) × ((k : ℕ) → k < i → isUnwritable (entriesOf (lanesOf terms ends text) names) (rowAt (bare subj pred obj) k) ≡ false)
 
 abbrev μ-loop : tie.MeasureT-loop
-μ-loop subj pred obj count terms ends text names i₀ i = count - i
+μ-loop subj pred obj count terms ends text names slots marks i₀ i = count - i
 
 loop-holds : tie.Need-loop-holds Inv-loop μ-loop
 loop-holds c = (search needs, λ k h. absurd (omega arith))
 
 shared-slice-read-writable : tie.Need-shared-slice-read-writable Inv-loop μ-loop
 shared-slice-read-writable c =
-    let the-pre = c .before .before .before .before .before .before .before .before .before .pre in
+    let the-pre = c .before .before .before .before .before .before .before .before .before .before .before .pre in
     let the-loop-test = c .before .loop-test in
-    omega (arith, the-pre .in-subj, the-loop-test .taken)
+    omega (arith, the-pre .0 .in-subj, the-loop-test .taken)
 
 shared-slice-read-writable-2 : tie.Need-shared-slice-read-writable-2 Inv-loop μ-loop
 shared-slice-read-writable-2 c =
-    let the-pre = c .before .before .before .before .before .before .before .before .before .before .pre in
+    let the-pre = c .before .before .before .before .before .before .before .before .before .before .before .before .pre in
     let the-loop-test = c .before .before .loop-test in
-    omega (arith, the-pre .in-pred, the-loop-test .taken)
+    omega (arith, the-pre .0 .in-pred, the-loop-test .taken)
 
 shared-slice-read-writable-3 : tie.Need-shared-slice-read-writable-3 Inv-loop μ-loop
 shared-slice-read-writable-3 c =
-    let the-pre = c .before .before .before .before .before .before .before .before .before .before .before .pre in
+    let the-pre = c .before .before .before .before .before .before .before .before .before .before .before .before .before .pre in
     let the-loop-test = c .before .before .before .loop-test in
-    omega (arith, the-pre .in-obj, the-loop-test .taken)
+    omega (arith, the-pre .0 .in-obj, the-loop-test .taken)
 
 writable-requires : tie.Need-writable-requires Inv-loop μ-loop
 writable-requires c κs =
-    let the-pre = c .before .before .before .before .before .before .before .before .before .before .before .pre in
-    the-pre .fit
+    let the-pre = c .before .before .before .before .before .before .before .before .before .before .before .before .before .pre in
+    (the-pre .0 .fit, the-pre .1)
 
 returns : tie.Need-returns Inv-loop μ-loop
 returns c =
@@ -58,7 +58,7 @@ returns c =
 
 loop-again : tie.Need-loop-again Inv-loop μ-loop
 loop-again c =
-    let the-args = c .before .before .before .before .before .before .before .before .before .before .before .before .before .args in
+    let the-args = c .before .before .before .before .before .before .before .before .before .before .before .before .before .before .before .args in
     let the-loop-test = c .before .before .before .before .before .loop-test in
     let the-loop = c .before .before .before .before .before .before .loop in
     let the-writable = c .before .writable in

@@ -12,40 +12,40 @@ use Rattle.ntriples.proofs.put_lines.Statement.{statement}
 use Rattle.ntriples.proofs.put_lines.Tie as tie
 
 abbrev Inv-loop : tie.InvT-loop
-Inv-loop out₀ subj pred obj count terms ends text names at₀ i₀ out at i =
+Inv-loop out₀ subj pred obj count terms ends text names slots at₀ i₀ out at i =
     (i ≤ count) × (length out ≡ length out₀) × (out ≡ written out₀ 0 (linesBytes (entriesOf (lanesOf terms ends text) names) subj pred obj i)) × (at ≡ length (linesBytes (entriesOf (lanesOf terms ends text) names) subj pred obj i))
 
 abbrev μ-loop : tie.MeasureT-loop
-μ-loop out₀ subj pred obj count terms ends text names at₀ i₀ out at i = count - i
+μ-loop out₀ subj pred obj count terms ends text names slots at₀ i₀ out at i = count - i
 
 loop-holds : tie.Need-loop-holds Inv-loop μ-loop
 loop-holds c =
-    let the-args = c .before .before .before .before .before .before .before .args in
+    let the-args = c .before .before .before .before .before .before .before .before .args in
     let es = entriesOf (lanesOf (the-args .terms .now) (the-args .ends .now) (the-args .text .now)) (the-args .names) in
     (search needs, search needs, lines-start es (the-args .subj .now) (the-args .pred .now) (the-args .obj .now) (the-args .out .now), none-long es (the-args .subj .now) (the-args .pred .now) (the-args .obj .now))
 
 shared-slice-read-put-line : tie.Need-shared-slice-read-put-line Inv-loop μ-loop
 shared-slice-read-put-line c =
-    let the-pre = c .before .before .before .before .before .before .before .before .before .before .before .pre in
+    let the-pre = c .before .before .before .before .before .before .before .before .before .before .before .before .pre in
     let the-loop-test = c .before .before .loop-test in
     omega (arith, the-pre .0 .in-subj, the-loop-test .taken)
 
 shared-slice-read-put-line-2 : tie.Need-shared-slice-read-put-line-2 Inv-loop μ-loop
 shared-slice-read-put-line-2 c =
-    let the-pre = c .before .before .before .before .before .before .before .before .before .before .before .before .pre in
+    let the-pre = c .before .before .before .before .before .before .before .before .before .before .before .before .before .pre in
     let the-loop-test = c .before .before .before .loop-test in
     omega (arith, the-pre .0 .in-pred, the-loop-test .taken)
 
 shared-slice-read-put-line-3 : tie.Need-shared-slice-read-put-line-3 Inv-loop μ-loop
 shared-slice-read-put-line-3 c =
-    let the-pre = c .before .before .before .before .before .before .before .before .before .before .before .before .before .pre in
+    let the-pre = c .before .before .before .before .before .before .before .before .before .before .before .before .before .before .pre in
     let the-loop-test = c .before .before .before .before .loop-test in
     omega (arith, the-pre .0 .in-obj, the-loop-test .taken)
 
 put-line-requires : tie.Need-put-line-requires Inv-loop μ-loop
 put-line-requires c κs =
-    let the-args = c .before .before .before .before .before .before .before .before .before .before .before .before .before .args in
-    let the-pre = c .before .before .before .before .before .before .before .before .before .before .before .before .before .pre in
+    let the-args = c .before .before .before .before .before .before .before .before .before .before .before .before .before .before .args in
+    let the-pre = c .before .before .before .before .before .before .before .before .before .before .before .before .before .before .pre in
     let the-loop = c .before .before .before .before .before .loop in
     let the-loop-test = c .before .before .before .before .loop-test in
     let es = entriesOf (lanesOf (the-args .terms .now) (the-args .ends .now) (the-args .text .now)) (the-args .names) in
@@ -53,10 +53,10 @@ put-line-requires c κs =
 
 loop-again : tie.Need-loop-again Inv-loop μ-loop
 loop-again c =
-    let the-args = c .before .before .before .before .before .before .before .before .before .before .before .before .before .before .before .before .args in
+    let the-args = c .before .before .before .before .before .before .before .before .before .before .before .before .before .before .before .before .before .args in
     let the-loop-test = c .before .before .before .before .before .before .before .loop-test in
     let the-loop = c .before .before .before .before .before .before .before .before .loop in
-    let the-pre = c .before .before .before .before .before .before .before .before .before .before .before .before .before .before .before .before .pre in
+    let the-pre = c .before .before .before .before .before .before .before .before .before .before .before .before .before .before .before .before .before .pre in
     let the-put-line = c .before .before .put-line in
     let es = entriesOf (lanesOf (the-args .terms .now) (the-args .ends .now) (the-args .text .now)) (the-args .names) in (
       omega (arith, the-loop-test .taken),
@@ -68,7 +68,7 @@ loop-again c =
 returns : tie.Need-returns Inv-loop μ-loop
 returns c =
     let the-loop = c .before .loop in
-    let the-args = c .before .before .before .before .before .before .before .before .before .args in
+    let the-args = c .before .before .before .before .before .before .before .before .before .before .args in
     let the-loop-test = c .loop-test in
     let e : the-loop .i ≡ the-args .count = omega (arith, the-loop .inv .0, the-loop-test .left) in
     rw (← e) (the-loop .inv .2)

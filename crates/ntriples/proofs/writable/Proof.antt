@@ -7,7 +7,7 @@ use Rattle.ntriples.proofs.writable.Tie as tie
 
 returns : tie.Need-returns
 returns c =
-    let the-args = c .before .before .before .before .before .args in
+    let the-args = c .before .before .before .before .before .before .before .args in
     let the-sort-of = c .before .sort-of in
     let the-if1 = c .if1 in
     let es = entriesOf (lanesOf (the-args .terms .now) (the-args .ends .now) (the-args .text .now)) (the-args .names) in
@@ -15,7 +15,7 @@ returns c =
 
 returns-2 : tie.Need-returns-2
 returns-2 c =
-    let the-args = c .before .before .before .before .before .before .before .args in
+    let the-args = c .before .before .before .before .before .before .before .before .before .args in
     let the-sort-of = c .before .before .before .sort-of in
     let the-if1 = c .before .before .if1 in
     let the-has-text = c .before .has-text in
@@ -25,7 +25,7 @@ returns-2 c =
 
 returns-3 : tie.Need-returns-3
 returns-3 c =
-    let the-args = c .before .before .before .before .before .before .before .before .before .args in
+    let the-args = c .before .before .before .before .before .before .before .before .before .before .before .args in
     let the-sort-of = c .before .before .before .before .before .sort-of in
     let the-if1 = c .before .before .before .before .if1 in
     let the-has-text = c .before .before .before .has-text in
@@ -37,7 +37,7 @@ returns-3 c =
 
 returns-4 : tie.Need-returns-4
 returns-4 c =
-    let the-args = c .before .before .before .before .before .before .before .before .before .before .args in
+    let the-args = c .before .before .before .before .before .before .before .before .before .before .before .before .args in
     let the-sort-of = c .before .before .before .before .before .before .sort-of in
     let the-if1 = c .before .before .before .before .before .if1 in
     let the-has-text = c .before .before .before .before .has-text in

@@ -8,7 +8,7 @@ use Rattle.ntwrite.proofs.line_size.Tie as tie
 
 returns : tie.Need-returns
 returns c =
-    let the-args = c .before .before .before .before .before .before .args in
+    let the-args = c .before .before .before .before .before .before .before .args in
     let the-term-size = c .before .before .term-size in
     let the-term-size2 = c .before .term-size2 in
     let the-term-size3 = c .term-size3 in

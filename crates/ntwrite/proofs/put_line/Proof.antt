@@ -9,23 +9,23 @@ use Rattle.ntwrite.proofs.put_line.Tie as tie
 
 put-part-requires : tie.Need-put-part-requires
 put-part-requires c κs =
-    let the-args = c .before .before .before .before .before .args in
-    let the-pre = c .before .before .before .before .before .pre in
+    let the-args = c .before .before .before .before .before .before .args in
+    let the-pre = c .before .before .before .before .before .before .pre in
     let es = entriesOf (lanesOf (the-args .terms .now) (the-args .ends .now) (the-args .text .now)) (the-args .names) in
     (the-pre .0, omega (arith, the-pre .1, line-long es (the-args .s) (the-args .p) (the-args .o)))
 
 put-part-requires-2 : tie.Need-put-part-requires-2
 put-part-requires-2 c κs =
-    let the-args = c .before .before .before .before .before .before .before .before .before .args in
-    let the-pre = c .before .before .before .before .before .before .before .before .before .pre in
+    let the-args = c .before .before .before .before .before .before .before .before .before .before .args in
+    let the-pre = c .before .before .before .before .before .before .before .before .before .before .pre in
     let the-put-part = c .before .before .before .put-part in
     let es = entriesOf (lanesOf (the-args .terms .now) (the-args .ends .now) (the-args .text .now)) (the-args .names) in
     (the-pre .0, omega (arith, the-pre .1, line-long es (the-args .s) (the-args .p) (the-args .o), the-put-part .ensures .1, the-put-part .kept .0))
 
 put-part-requires-3 : tie.Need-put-part-requires-3
 put-part-requires-3 c κs =
-    let the-args = c .before .before .before .before .before .before .before .before .before .before .before .before .before .args in
-    let the-pre = c .before .before .before .before .before .before .before .before .before .before .before .before .before .pre in
+    let the-args = c .before .before .before .before .before .before .before .before .before .before .before .before .before .before .args in
+    let the-pre = c .before .before .before .before .before .before .before .before .before .before .before .before .before .before .pre in
     let the-put-part = c .before .before .before .before .before .before .before .put-part in
     let the-put-part2 = c .before .before .before .put-part2 in
     let es = entriesOf (lanesOf (the-args .terms .now) (the-args .ends .now) (the-args .text .now)) (the-args .names) in
@@ -33,8 +33,8 @@ put-part-requires-3 c κs =
 
 put-pair-requires : tie.Need-put-pair-requires
 put-pair-requires c κs =
-    let the-args = c .before .before .before .before .before .before .before .before .before .before .before .before .before .before .before .before .before .args in
-    let the-pre = c .before .before .before .before .before .before .before .before .before .before .before .before .before .before .before .before .before .pre in
+    let the-args = c .before .before .before .before .before .before .before .before .before .before .before .before .before .before .before .before .before .before .args in
+    let the-pre = c .before .before .before .before .before .before .before .before .before .before .before .before .before .before .before .before .before .before .pre in
     let the-put-part = c .before .before .before .before .before .before .before .before .before .before .before .put-part in
     let the-put-part2 = c .before .before .before .before .before .before .before .put-part2 in
     let the-put-part3 = c .before .before .before .put-part3 in
@@ -43,9 +43,9 @@ put-pair-requires c κs =
 
 add-result : tie.Need-add-result
 add-result c =
-    let the-good = c .before .before .before .before .before .before .before .before .before .before .before .before .before .before .before .before .before .before .before .before .good in
-    let the-args = c .before .before .before .before .before .before .before .before .before .before .before .before .before .before .before .before .before .before .before .before .args in
-    let the-pre = c .before .before .before .before .before .before .before .before .before .before .before .before .before .before .before .before .before .before .before .before .pre in
+    let the-good = c .before .before .before .before .before .before .before .before .before .before .before .before .before .before .before .before .before .before .before .before .before .good in
+    let the-args = c .before .before .before .before .before .before .before .before .before .before .before .before .before .before .before .before .before .before .before .before .before .args in
+    let the-pre = c .before .before .before .before .before .before .before .before .before .before .before .before .before .before .before .before .before .before .before .before .before .pre in
     let the-put-part = c .before .before .before .before .before .before .before .before .before .before .before .before .before .before .put-part in
     let the-put-part2 = c .before .before .before .before .before .before .before .before .before .before .put-part2 in
     let the-put-part3 = c .before .before .before .before .before .before .put-part3 in
@@ -54,11 +54,11 @@ add-result c =
 
 returns : tie.Need-returns
 returns c =
-    let the-args = c .before .before .before .before .before .before .before .before .before .before .before .before .before .before .before .before .before .before .before .before .args in
+    let the-args = c .before .before .before .before .before .before .before .before .before .before .before .before .before .before .before .before .before .before .before .before .before .args in
     let the-put-part = c .before .before .before .before .before .before .before .before .before .before .before .before .before .before .put-part in
     let the-put-part2 = c .before .before .before .before .before .before .before .before .before .before .put-part2 in
     let the-put-part3 = c .before .before .before .before .before .before .put-part3 in
-    let the-pre = c .before .before .before .before .before .before .before .before .before .before .before .before .before .before .before .before .before .before .before .before .pre in
+    let the-pre = c .before .before .before .before .before .before .before .before .before .before .before .before .before .before .before .before .before .before .before .before .before .pre in
     let the-put-pair = c .before .before .put-pair in
     let es = entriesOf (lanesOf (the-args .terms .now) (the-args .ends .now) (the-args .text .now)) (the-args .names) in
     let laid = line-laid es (the-args .s) (the-args .p) (the-args .o) (the-args .out .now) _ _ _ _ (the-args .at) (the-put-part .result) (the-put-part2 .result) (the-put-part3 .result) (the-pre .1) (the-put-part .ensures .1) (the-put-part2 .ensures .1) (the-put-part3 .ensures .1) (the-put-part .ensures .0) (the-put-part2 .ensures .0) (the-put-part3 .ensures .0) (the-put-pair .ensures) in

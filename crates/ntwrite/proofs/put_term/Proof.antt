@@ -12,8 +12,8 @@ use Rattle.ntwrite.proofs.put_term.Tie as tie
 
 slice-write-out : tie.Need-slice-write-out
 slice-write-out c =
-    let the-args = c .before .before .before .before .before .before .args in
-    let the-pre = c .before .before .before .before .before .before .pre in
+    let the-args = c .before .before .before .before .before .before .before .args in
+    let the-pre = c .before .before .before .before .before .before .before .pre in
     let the-sort-of = c .before .sort-of in
     let the-if1 = c .if1 in
     let es = entriesOf (lanesOf (the-args .terms .now) (the-args .ends .now) (the-args .text .now)) (the-args .names) in
@@ -21,8 +21,8 @@ slice-write-out c =
 
 put-text-requires : tie.Need-put-text-requires
 put-text-requires c κs =
-    let the-args = c .before .before .before .before .before .before .before .args in
-    let the-pre = c .before .before .before .before .before .before .before .pre in
+    let the-args = c .before .before .before .before .before .before .before .before .args in
+    let the-pre = c .before .before .before .before .before .before .before .before .pre in
     let the-sort-of = c .before .before .sort-of in
     let the-if1 = c .before .if1 in
     let es = entriesOf (lanesOf (the-args .terms .now) (the-args .ends .now) (the-args .text .now)) (the-args .names) in
@@ -30,8 +30,8 @@ put-text-requires c κs =
 
 slice-write-out-2 : tie.Need-slice-write-out-2
 slice-write-out-2 c =
-    let the-args = c .before .before .before .before .before .before .before .before .before .before .args in
-    let the-pre = c .before .before .before .before .before .before .before .before .before .before .pre in
+    let the-args = c .before .before .before .before .before .before .before .before .before .before .before .args in
+    let the-pre = c .before .before .before .before .before .before .before .before .before .before .before .pre in
     let the-put-text = c .before .before .put-text in
     let the-sort-of = c .before .before .before .before .before .sort-of in
     let the-if1 = c .before .before .before .before .if1 in
@@ -40,8 +40,8 @@ slice-write-out-2 c =
 
 add-result : tie.Need-add-result
 add-result c =
-    let the-args = c .before .before .before .before .before .before .before .before .before .before .args in
-    let the-pre = c .before .before .before .before .before .before .before .before .before .before .pre in
+    let the-args = c .before .before .before .before .before .before .before .before .before .before .before .args in
+    let the-pre = c .before .before .before .before .before .before .before .before .before .before .before .pre in
     let the-put-text = c .before .before .put-text in
     let the-sort-of = c .before .before .before .before .before .sort-of in
     let the-if1 = c .before .before .before .before .if1 in
@@ -51,14 +51,14 @@ add-result c =
 same-length : tie.Need-same-length
 same-length c =
     let the-put-text = c .before .before .put-text in
-    let the-args = c .before .before .before .before .before .before .before .before .before .before .args in
+    let the-args = c .before .before .before .before .before .before .before .before .before .before .before .args in
     simp length-set (the-put-text .kept .0 ∙ length-set (the-args .out .now) (the-args .at) 60)
 
 returns : tie.Need-returns
 returns c =
-    let the-args = c .before .before .before .before .before .before .before .before .before .before .args in
+    let the-args = c .before .before .before .before .before .before .before .before .before .before .before .args in
     let the-put-text = c .before .before .put-text in
-    let the-pre = c .before .before .before .before .before .before .before .before .before .before .pre in
+    let the-pre = c .before .before .before .before .before .before .before .before .before .before .before .pre in
     let the-sort-of = c .before .before .before .before .before .sort-of in
     let the-if1 = c .before .before .before .before .if1 in
     let es = entriesOf (lanesOf (the-args .terms .now) (the-args .ends .now) (the-args .text .now)) (the-args .names) in
@@ -66,8 +66,8 @@ returns c =
 
 put-pair-requires : tie.Need-put-pair-requires
 put-pair-requires c κs =
-    let the-args = c .before .before .before .before .before .before .before .before .args in
-    let the-pre = c .before .before .before .before .before .before .before .before .pre in
+    let the-args = c .before .before .before .before .before .before .before .before .before .args in
+    let the-pre = c .before .before .before .before .before .before .before .before .before .pre in
     let the-sort-of = c .before .before .before .sort-of in
     let the-if2 = c .before .if2 in
     let es = entriesOf (lanesOf (the-args .terms .now) (the-args .ends .now) (the-args .text .now)) (the-args .names) in
@@ -75,8 +75,8 @@ put-pair-requires c κs =
 
 put-text-requires-2 : tie.Need-put-text-requires-2
 put-text-requires-2 c κs =
-    let the-args = c .before .before .before .before .before .before .before .before .before .before .before .before .args in
-    let the-pre = c .before .before .before .before .before .before .before .before .before .before .before .before .pre in
+    let the-args = c .before .before .before .before .before .before .before .before .before .before .before .before .before .args in
+    let the-pre = c .before .before .before .before .before .before .before .before .before .before .before .before .before .pre in
     let the-put-pair = c .before .before .before .put-pair in
     let the-sort-of = c .before .before .before .before .before .before .before .sort-of in
     let the-if2 = c .before .before .before .before .before .if2 in
@@ -85,9 +85,9 @@ put-text-requires-2 c κs =
 
 returns-2 : tie.Need-returns-2
 returns-2 c =
-    let the-args = c .before .before .before .before .before .before .before .before .before .before .before .before .before .before .before .args in
+    let the-args = c .before .before .before .before .before .before .before .before .before .before .before .before .before .before .before .before .args in
     let the-put-text2 = c .before .before .put-text2 in
-    let the-pre = c .before .before .before .before .before .before .before .before .before .before .before .before .before .before .before .pre in
+    let the-pre = c .before .before .before .before .before .before .before .before .before .before .before .before .before .before .before .before .pre in
     let the-sort-of = c .before .before .before .before .before .before .before .before .before .before .sort-of in
     let the-if2 = c .before .before .before .before .before .before .before .before .if2 in
     let the-put-pair = c .before .before .before .before .before .before .put-pair in
@@ -96,8 +96,8 @@ returns-2 c =
 
 put-text-requires-3 : tie.Need-put-text-requires-3
 put-text-requires-3 c κs =
-    let the-args = c .before .before .before .before .before .before .before .before .args in
-    let the-pre = c .before .before .before .before .before .before .before .before .pre in
+    let the-args = c .before .before .before .before .before .before .before .before .before .args in
+    let the-pre = c .before .before .before .before .before .before .before .before .before .pre in
     let the-sort-of = c .before .before .before .sort-of in
     let the-if1 = c .before .before .if1 in
     let the-if2 = c .before .if2 in
@@ -106,9 +106,9 @@ put-text-requires-3 c κs =
 
 returns-3 : tie.Need-returns-3
 returns-3 c =
-    let the-args = c .before .before .before .before .before .before .before .before .before .before .before .args in
+    let the-args = c .before .before .before .before .before .before .before .before .before .before .before .before .args in
     let the-put-text3 = c .before .before .put-text3 in
-    let the-pre = c .before .before .before .before .before .before .before .before .before .before .before .pre in
+    let the-pre = c .before .before .before .before .before .before .before .before .before .before .before .before .pre in
     let the-sort-of = c .before .before .before .before .before .before .sort-of in
     let the-if1 = c .before .before .before .before .before .if1 in
     let the-if2 = c .before .before .before .before .if2 in

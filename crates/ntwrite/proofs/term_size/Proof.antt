@@ -8,7 +8,7 @@ use Rattle.ntwrite.proofs.term_size.Tie as tie
 
 returns : tie.Need-returns
 returns c =
-    let the-args = c .before .before .before .before .before .before .args in
+    let the-args = c .before .before .before .before .before .before .before .args in
     let the-sort-of = c .before .sort-of in
     let the-if1 = c .if1 in
     let the-text-size = c .before .before .text-size in
@@ -17,7 +17,7 @@ returns c =
 
 returns-2 : tie.Need-returns-2
 returns-2 c =
-    let the-args = c .before .before .before .before .before .before .args in
+    let the-args = c .before .before .before .before .before .before .before .args in
     let the-sort-of = c .before .sort-of in
     let the-if1 = c .if1 in
     let the-text-size = c .before .before .text-size in

@@ -20,13 +20,13 @@ returns c =
     let the-args = c .before .before .before .before .before .args in
     let the-if1 = c .if1 in
     let the-start-of = c .before .before .start-of in
-    (omega arith, omega arith, slice-empty 0 (the-args .text .now) ∙ sym (text-falls (the-args .ends .now) (the-args .text .now) (the-args .i) (omega (arith, the-if1 .taken, the-start-of .ensures))))
+    record { rises = omega arith; within = omega arith; bytes = slice-empty 0 (the-args .text .now) ∙ sym (text-falls (the-args .ends .now) (the-args .text .now) (the-args .i) (omega (arith, the-if1 .taken, the-start-of .ensures))) }
 
 returns-2 : tie.Need-returns-2
 returns-2 c =
     let the-args = c .before .before .before .before .before .before .args in
     let the-if2 = c .if2 in
-    (omega arith, omega arith, slice-empty 0 (the-args .text .now) ∙ sym (text-past (the-args .ends .now) (the-args .text .now) (the-args .i) (the-if2 .taken)))
+    record { rises = omega arith; within = omega arith; bytes = slice-empty 0 (the-args .text .now) ∙ sym (text-past (the-args .ends .now) (the-args .text .now) (the-args .i) (the-if2 .taken)) }
 
 returns-3 : tie.Need-returns-3
 returns-3 c =
@@ -34,11 +34,12 @@ returns-3 c =
     let the-if1 = c .before .if1 in
     let the-if2 = c .if2 in
     let the-args = c .before .before .before .before .before .before .args in
-    let start = the-start-of .ensures in (
-      the-if1 .left,
-      the-if2 .left,
-      ap (λ (k : ℕ). slice k (getD (the-args .ends .now) (the-args .i) 0) (the-args .text .now)) start ∙ sym (text-fits (the-args .ends .now) (the-args .text .now) (the-args .i) (omega (arith, the-if1 .left)) (the-if2 .left)),
-    )
+    let start = the-start-of .ensures in
+    record {
+      rises = the-if1 .left;
+      within = the-if2 .left;
+      bytes = ap (λ (k : ℕ). slice k (getD (the-args .ends .now) (the-args .i) 0) (the-args .text .now)) start ∙ sym (text-fits (the-args .ends .now) (the-args .text .now) (the-args .i) (omega (arith, the-if1 .left)) (the-if2 .left));
+    }
 
 pub span-at-spec : {M : Type 1} → statement M
 span-at-spec =
