@@ -1,11 +1,10 @@
 // The page's calls for C, as they are there. The number is answered, and what else they answer is laid in the places lent; `compile` and `run`, whose
 // steps are lent as records, answer the page's own structs.
-ghost use mathlib.Core.Path.{_≡_};
 ghost use lib.ListN.{length};
-ghost use Rattle.term.specs.Refusal.{verdict, first};
+ghost use Rattle.term.specs.Refusal.{verdict};
 ghost use Rattle.table.specs.Rows.{row};
 ghost use Rattle.table.specs.Lent.{before, after};
-ghost use Rattle.table.specs.Checks.{tableChecks};
+ghost use Rattle.table.specs.Checks.{Checking};
 ghost use Rattle.table.specs.Adding.{Adding};
 ghost use Rattle.book.specs.Reading.{Reading};
 ghost use Rattle.book.specs.Writing.{Writing};
@@ -36,7 +35,7 @@ pub extern "C" fn trackvesper_check(
     count: usize,
     place: &mut usize,
 ) -> u8
-    ensures { λ r. ⌜ verdict r (now (place .exit)) ≡ first (tableChecks kind (before subj pred obj ann) count) ⌝ }
+    ensures { λ r. ⌜ Checking kind (before subj pred obj ann) count (verdict r (now (place .exit))) ⌝ }
 {
     let answer = check(kind, subj, pred, obj, ann, count);
     *place = answer.place;
