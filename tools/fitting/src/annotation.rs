@@ -33,6 +33,32 @@ impl Kind {
         }
     }
 
+    /// The line of a text that says it.
+    pub fn line(self) -> String {
+        format!("kind {}", self.words())
+    }
+
+    /// What stands there behind `kind`.
+    pub fn words(self) -> String {
+        match self {
+            Kind::Years { base } => format!("years from {base}"),
+            Kind::Sheets => "sheets".to_string(),
+            Kind::Degree => "degree".to_string(),
+            Kind::Strict => "strict".to_string(),
+        }
+    }
+
+    /// The kind of a number and a base year.
+    pub fn of(number: u8, base: u16) -> Option<Kind> {
+        match number {
+            1 => Some(Kind::Years { base }),
+            2 => Some(Kind::Sheets),
+            3 => Some(Kind::Degree),
+            4 => Some(Kind::Strict),
+            _ => None,
+        }
+    }
+
     /// What a word of a list is called.
     pub fn one(self) -> &'static str {
         match self {
@@ -83,6 +109,24 @@ impl Kind {
         }
     }
 
+    /// Whether a value holds in all that another says.
+    pub fn covers(self, value: u64, least: u64) -> bool {
+        match self.is_set() {
+            true => value & least == least,
+            false => value >= least,
+        }
+    }
+
+    /// What of a value of this kind another book's value does not have: years by years, whatever
+    /// year each book begins with; a degree whole, if the two differ.
+    pub fn only(self, value: u64, other: Kind, its_value: u64) -> Option<u64> {
+        let less = match self.is_set() {
+            true => value & !shifted(its_value, i32::from(other.base()) - i32::from(self.base())),
+            false => value * u64::from(value != its_value),
+        };
+        Some(less).filter(|less| *less != 0)
+    }
+
     /// The value of a list of runs, or of one degree.
     pub fn value(self, items: &[&str]) -> Result<u64, String> {
         if self.is_set() {
@@ -94,7 +138,7 @@ impl Kind {
         }
     }
 
-    /// Whether a degree is from 1 to 1000 is for the program to say.
+    /// Whether a degree is from 1 to 1000 is for the library to say.
     fn degree(self, item: &str) -> Result<u64, String> {
         let whole = "degrees are whole numbers from 1 to 1000";
         let example = if item.contains('.') { " (700, not 0.7)" } else { "" };
@@ -131,16 +175,28 @@ impl Kind {
 
     /// The value as a text writes it.
     pub fn written(self, value: u64) -> String {
+        if self.is_set() && value == self.top() {
+            return "always".to_string();
+        }
+        self.written_span(value)
+    }
+
+    /// The same with all years by their numbers.
+    pub fn written_span(self, value: u64) -> String {
         if !self.is_set() {
             return value.to_string();
-        }
-        if value == self.top() {
-            return "always".to_string();
         }
         let first = u32::from(self.base());
         let runs: Vec<String> = runs(value).iter().map(|run| written_run(first, *run)).collect();
         runs.join(", ")
     }
+}
+
+/// A set of years as another book counts them, whose first year is so many years earlier.
+fn shifted(value: u64, years: i32) -> u64 {
+    let far = years.unsigned_abs();
+    let moved = if years < 0 { value.checked_shr(far) } else { value.checked_shl(far) };
+    moved.unwrap_or(0)
 }
 
 /// Digits and nothing else.
@@ -208,9 +264,27 @@ mod tests {
     }
 
     #[test]
+    fn what_one_value_has_alone() {
+        let other = Kind::Years { base: 1995 };
+        let (mine, yours) =
+            (YEARS.value(&["2000-2005"]).unwrap(), other.value(&["1995-2002"]).unwrap());
+        assert_eq!(YEARS.only(mine, other, yours), Some(YEARS.value(&["2003-2005"]).unwrap()));
+        assert_eq!(other.only(yours, YEARS, mine), Some(other.value(&["1995-1999"]).unwrap()));
+        assert_eq!(YEARS.only(mine, YEARS, mine), None);
+        assert_eq!(
+            YEARS.only(mine, Kind::Years { base: 2100 }, u64::MAX),
+            Some(mine),
+            "no year in common"
+        );
+        assert_eq!(Kind::Degree.only(700, Kind::Degree, 500), Some(700));
+        assert_eq!(Kind::Degree.only(700, Kind::Degree, 700), None);
+        assert_eq!(Kind::Degree.only(0, Kind::Degree, 700), None);
+    }
+
+    #[test]
     fn degrees_are_whole_numbers() {
         assert_eq!(Kind::Degree.value(&["700"]), Ok(700));
-        assert_eq!(Kind::Strict.value(&["1001"]), Ok(1001), "the program says so");
+        assert_eq!(Kind::Strict.value(&["1001"]), Ok(1001), "the library says so");
         for wrong in ["0.7", "+7", "-7", "70%", "99999999999999999999"] {
             assert!(Kind::Degree.value(&[wrong]).is_err(), "{wrong}");
         }

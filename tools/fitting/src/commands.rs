@@ -1,121 +1,316 @@
-//! The four commands, from a text to what is printed.
+//! The commands, from what was read to what is printed.
 
 use crate::annotation::Kind;
+use crate::answers::Asking;
+use crate::arguments::{Command, Job};
+use crate::calls::{Calls, Row, Table};
+use crate::columns::Columns;
+use crate::diff::{differences, Holding};
+use crate::exchange::{self, Form};
 use crate::fields::LONGEST;
-use crate::programs::{self, Closed, Refusal};
-use crate::refusal::{place_word, Refused};
-use crate::show;
+use crate::input::Source;
+use crate::listing::{self, listing, terms};
+use crate::refusal::{self, Refused};
 use crate::text::{self, Text};
-use crate::Fault;
-use std::path::Path;
+use crate::{namelist, notes, page};
+use std::io::{self, Write};
 
-#[derive(Clone, Copy, Debug, PartialEq, Eq)]
-pub enum Command {
-    Close,
-    Ask,
-    Book,
-    Questions,
+/// Why a command could not be done.
+#[derive(Debug)]
+pub enum Trouble {
+    /// What to print, to its last line end.
+    Said(String),
+    /// A wrong call.
+    Use(String),
+    Output(io::Error),
 }
 
-/// What a command prints, and whether everything was done.
-pub struct Outcome {
-    pub output: Vec<u8>,
-    pub done: bool,
-}
-
-impl Outcome {
-    fn done(output: impl Into<Vec<u8>>) -> Outcome {
-        Outcome { output: output.into(), done: true }
+impl From<io::Error> for Trouble {
+    fn from(why: io::Error) -> Trouble {
+        Trouble::Output(why)
     }
 }
 
-/// Does a command over the text of `file`; an error is what to print.
+/// Whether everything was done.
+type Done = Result<bool, Trouble>;
+
+/// What a command works with.
+struct Bench<'a> {
+    job: &'a Job,
+    calls: Option<&'a dyn Calls>,
+    out: &'a mut dyn Write,
+    err: &'a mut dyn Write,
+}
+
+/// Does a command over the files that were read.
 pub fn execute(
-    command: Command,
-    file: &str,
-    bytes: &[u8],
-    folder: &Path,
-) -> Result<Outcome, String> {
-    let text = text::read(bytes).map_err(|faults| written_faults(file, &faults))?;
-    match command {
-        Command::Close => close(file, &text, folder),
-        Command::Ask => ask(file, &text, folder),
-        Command::Book => Ok(Outcome::done(text.book.bytes)),
-        Command::Questions => Ok(Outcome::done(counter_input(file, &text)?)),
+    job: &Job,
+    sources: &[Source],
+    calls: Option<&dyn Calls>,
+    out: &mut dyn Write,
+    err: &mut dyn Write,
+) -> Done {
+    let mut bench = Bench { job, calls, out, err };
+    let [source, others @ ..] = sources else {
+        return Err(Trouble::Use("a file is wanted".to_string()));
+    };
+    match job.command {
+        Command::Check => bench.check(source),
+        Command::Close => bench.close(source),
+        Command::Ask => bench.ask(source),
+        Command::Page => bench.page(source),
+        Command::Diff => bench.diff(source, others),
+        Command::Import => bench.import(source),
+        Command::Export => bench.export(source),
+        Command::Book => bench.book(source),
+        Command::Questions => bench.questions(source),
+        Command::Names => bench.names(source),
+        Command::Text => bench.text(source, others.first()),
     }
 }
 
-/// Faults shown at once.
-const MOST_FAULTS: usize = 20;
-
-fn written_faults(file: &str, faults: &[Fault]) -> String {
-    let lines = faults.iter().map(|fault| format!("{file}:{}: {}\n", fault.line, fault.words));
-    let mut written: String = lines.take(MOST_FAULTS).collect();
-    if faults.len() > MOST_FAULTS {
-        written += &format!("{file}: and {} more\n", faults.len() - MOST_FAULTS);
+impl Bench<'_> {
+    fn calls(&self) -> Result<&dyn Calls, Trouble> {
+        let missing = "fitting: this was built without the proved library, which is made for x86-64 machines only\n";
+        self.calls.ok_or_else(|| Trouble::Said(missing.to_string()))
     }
-    written
-}
 
-fn close(file: &str, text: &Text, folder: &Path) -> Result<Outcome, String> {
-    match programs::close(folder, &text.book.bytes, text.kind).map_err(of_program)? {
-        Closed::Refused(refusal) => Err(book_refusal(file, text, refusal)),
-        Closed::Rows(rows) => {
-            let listing = show::listing(text, kind_of(text)?, &rows);
-            Ok(Outcome::done(listing.ok_or_else(strange_term)?))
+    /// Reads a text, and says what looks like a slip of the pen in it.
+    fn read(&mut self, source: &Source) -> Result<Text, Trouble> {
+        let text = text::read(&source.bytes)
+            .map_err(|faults| Trouble::Said(faults.written(&source.name)))?;
+        if !self.job.options.quiet {
+            let notes = notes::written(&source.name, &notes::notes(&text));
+            // Notes that find no room stop nothing.
+            drop(self.err.write_all(notes.as_bytes()));
+        }
+        Ok(text)
+    }
+
+    /// The book's rows as the library reads them.
+    fn table(&self, source: &Source, text: &Text) -> Result<(Kind, Table), Trouble> {
+        let refused = |refusal| Trouble::Said(refusal::of_book(&source.name, text, refusal));
+        let book = self.calls()?.read(&text.book.bytes).map_err(refused)?;
+        let kind = text.kind.ok_or_else(|| {
+            Trouble::Said("fitting: a book without a kind was not refused\n".to_string())
+        })?;
+        Ok((kind, book.table))
+    }
+
+    fn closed(&self, source: &Source, text: &Text) -> Result<(Kind, Table), Trouble> {
+        let (kind, table) = self.table(source, text)?;
+        let refused = |refusal| Trouble::Said(refusal::of_book(&source.name, text, refusal));
+        Ok((kind, self.calls()?.close(&table).map_err(refused)?))
+    }
+
+    fn print(&mut self, bytes: &[u8]) -> Done {
+        self.out.write_all(bytes)?;
+        Ok(true)
+    }
+
+    fn check(&mut self, source: &Source) -> Done {
+        let text = self.read(source)?;
+        let (kind, table) = self.closed(source, &text)?;
+        let mut refused = String::new();
+        // No look is allowed: a question that is right stops with 24 at its first, or needs none.
+        let asking = Asking {
+            calls: self.calls()?,
+            file: &source.name,
+            text: &text,
+            kind,
+            table: &table,
+            looks: 0,
+        };
+        for question in &text.questions {
+            let asked = asking.asked(question);
+            if ![0, 24].contains(&asked.refusal.number) {
+                refused += &asking.refused(question, &asked);
+            }
+        }
+        if refused.is_empty() {
+            Ok(true)
+        } else {
+            Err(Trouble::Said(refused))
         }
     }
-}
 
-fn ask(file: &str, text: &Text, folder: &Path) -> Result<Outcome, String> {
-    if text.questions.is_empty() {
-        let example = "ask ?lamp is led during ?when";
-        return Err(format!(
-            "{file}: there is no question here; a question is a line such as: {example}\n"
-        ));
+    fn close(&mut self, source: &Source) -> Done {
+        let text = self.read(source)?;
+        let (kind, table) = self.closed(source, &text)?;
+        let shown =
+            listing(kind, &text.names, &table.rows, Some(&text.stated)).ok_or_else(strange_term)?;
+        self.print(shown.as_bytes())
     }
-    if text.book.bytes.len() > LONGEST {
-        // Too long to be handed to the counter; the closing program says why.
-        return close(file, text, folder);
+
+    fn ask(&mut self, source: &Source) -> Done {
+        let text = self.read(source)?;
+        if text.questions.is_empty() {
+            let example = "ask ?lamp is led during ?when";
+            let words = format!(
+                "{}: there is no question here; a question is a line such as: {example}\n",
+                source.name
+            );
+            return Err(Trouble::Said(words));
+        }
+        let (kind, table) = self.closed(source, &text)?;
+        let (calls, looks) = (self.calls.ok_or_else(strange_term)?, self.job.options.looks);
+        let asking = Asking { calls, file: &source.name, text: &text, kind, table: &table, looks };
+        Ok(asking.all(self.out)?)
     }
-    let counted = programs::count(folder, &counter_input(file, text)?).map_err(of_program)?;
-    if let Some(refusal) = counted.refused {
-        return Err(book_refusal(file, text, refusal));
+
+    fn page(&mut self, source: &Source) -> Done {
+        let text = self.read(source)?;
+        let (kind, table) = self.closed(source, &text)?;
+        let looks = self.job.options.looks;
+        let asking = Asking {
+            calls: self.calls()?,
+            file: &source.name,
+            text: &text,
+            kind,
+            table: &table,
+            looks,
+        };
+        let (page, done) = page::page(&asking);
+        self.print(page.as_bytes())?;
+        Ok(done)
     }
-    if counted.asked.len() != text.questions.len() {
-        return Err(of_program("the program counter did not answer every question".to_string()));
+
+    fn diff(&mut self, left: &Source, others: &[Source]) -> Done {
+        let mut books = Vec::new();
+        for source in std::iter::once(left).chain(others) {
+            let text = self.read(source)?;
+            let (kind, table) = self.closed(source, &text)?;
+            let row = |row: &Row| Some((terms(&text.names, row)?, row.value));
+            let rows =
+                table.rows.iter().map(row).collect::<Option<Vec<_>>>().ok_or_else(strange_term)?;
+            books.push(Holding { file: source.name.clone(), kind, rows });
+        }
+        let [left, right] = &books[..] else {
+            return Err(Trouble::Use("diff wants two files".to_string()));
+        };
+        let shown = differences(left, right).map_err(Trouble::Said)?;
+        self.print(shown.as_bytes())
     }
-    let kind = kind_of(text)?;
-    let shown: Option<Vec<String>> = (text.questions.iter().zip(&counted.asked))
-        .map(|(question, asked)| show::answers(file, text, kind, question, asked))
-        .collect();
-    let output = shown.ok_or_else(strange_term)?.join("\n").into_bytes();
-    Ok(Outcome { output, done: counted.asked.iter().all(|asked| asked.refusal.number == 0) })
+
+    fn import(&mut self, source: &Source) -> Done {
+        let options = &self.job.options;
+        let kind = options.kind.as_deref().map(exchange::kind).transpose();
+        let kind = kind.map_err(|words| Trouble::Use(format!("--kind: {words}")))?;
+        let form = options.form.or_else(|| Form::of_file(&source.name));
+        let text = match form.ok_or_else(|| {
+            Trouble::Use("say the form of the file: --from nt or --from csv".to_string())
+        })? {
+            Form::Csv => exchange::import_table(source, kind),
+            Form::NTriples => {
+                let (Some(kind), Some(said)) = (kind, &options.when) else {
+                    let words = "a makers' list has no years: say its kind and when its lines hold, as in --kind \"years from 2000\" --when 2001-2005";
+                    return Err(Trouble::Use(words.to_string()));
+                };
+                let value = exchange::when(kind, said)
+                    .map_err(|words| Trouble::Use(format!("--when: {words}")))?;
+                exchange::import_list(self.calls()?, source, kind, value, &options.base)
+            }
+        };
+        self.print(text.map_err(Trouble::Said)?.as_bytes())
+    }
+
+    fn export(&mut self, source: &Source) -> Done {
+        let options = &self.job.options;
+        let form = options
+            .form
+            .ok_or_else(|| Trouble::Use("say the form: --to nt or --to csv".to_string()))?;
+        let unsaid = "N-Triples have no years: say which lines, as in --when 2005 (those that hold in 2005) or --when any";
+        if form == Form::NTriples && options.when.is_none() {
+            return Err(Trouble::Use(unsaid.to_string()));
+        }
+        let text = self.read(source)?;
+        let (kind, table) =
+            if options.closed { self.closed(source, &text)? } else { self.table(source, &text)? };
+        let least = match options.when.as_deref() {
+            None | Some("any") => 0,
+            Some(said) => exchange::when(kind, said)
+                .map_err(|words| Trouble::Use(format!("--when: {words}")))?,
+        };
+        let rows: Vec<Row> =
+            table.rows.into_iter().filter(|row| kind.covers(row.value, least)).collect();
+        match form {
+            Form::NTriples => self.export_list(kind, &text, &rows),
+            Form::Csv => self.export_table(kind, &text, &rows),
+        }
+    }
+
+    fn export_list(&mut self, kind: Kind, text: &Text, rows: &[Row]) -> Done {
+        let base = &self.job.options.base;
+        let (bytes, left_out) = exchange::export_list(self.calls()?, kind, &text.names, rows, base)
+            .map_err(Trouble::Said)?;
+        self.print(&bytes)?;
+        for row in &left_out {
+            let words = terms(&text.names, row).ok_or_else(strange_term)?.join(" ");
+            writeln!(self.err, "left out, a quoted text is no subject in N-Triples: {words}")?;
+        }
+        Ok(left_out.is_empty())
+    }
+
+    fn export_table(&mut self, kind: Kind, text: &Text, rows: &[Row]) -> Done {
+        let marked: Vec<(Row, listing::Source)> =
+            rows.iter().map(|row| (*row, listing::Source::of(row, &text.stated))).collect();
+        let (table, formulas) = exchange::export_table(kind, &text.names, &marked);
+        self.print(table.as_bytes())?;
+        for name in formulas {
+            writeln!(self.err, "note: a spreadsheet may take {name} for a formula")?;
+        }
+        Ok(true)
+    }
+
+    fn book(&mut self, source: &Source) -> Done {
+        let text = self.read(source)?;
+        self.print(&text.book.bytes)
+    }
+
+    /// The counter's whole input: the book and the questions, each behind its length.
+    fn questions(&mut self, source: &Source) -> Done {
+        let text = self.read(source)?;
+        let questions = text.questions.iter().map(|question| &question.fields);
+        let parts = std::iter::once(&text.book).chain(questions);
+        let input: Option<Vec<Vec<u8>>> = parts.map(|fields| fields.behind_length()).collect();
+        let too_long = format!(
+            "{}: the book is over {LONGEST} bytes, too long for the counter\n",
+            source.name
+        );
+        self.print(&input.ok_or(Trouble::Said(too_long))?.concat())
+    }
+
+    fn names(&mut self, source: &Source) -> Done {
+        let text = self.read(source)?;
+        self.print(namelist::written(&text.names).as_bytes())
+    }
+
+    fn text(&mut self, source: &Source, names: Option<&Source>) -> Done {
+        let list = match names {
+            None => namelist::List::default(),
+            Some(names) => namelist::read(names)
+                .map_err(|faults| Trouble::Said(faults.written(&names.name)))?,
+        };
+        let refused = |refusal| {
+            Trouble::Said(refusal::written(&source.name, None, None, Refused::Book, refusal))
+        };
+        let book = self.calls()?.read(&source.bytes).map_err(refused)?;
+        let kind = Kind::of(book.table.kind, book.base).ok_or_else(strange_term)?;
+        let line = |row: &Row| {
+            let mut words = row.triple.map(|term| list.text(term)).to_vec();
+            words.push(kind.written(row.value));
+            words
+        };
+        let lines: Vec<Vec<String>> = book.table.rows.iter().map(line).collect();
+        writeln!(self.out, "{}", kind.line())?;
+        Columns::default()
+            .lines(&lines)
+            .iter()
+            .try_for_each(|line| writeln!(self.out, "{line}"))?;
+        Ok(true)
+    }
 }
 
-/// The counter's whole input: the book and the questions, each behind its length.
-fn counter_input(file: &str, text: &Text) -> Result<Vec<u8>, String> {
-    let questions = text.questions.iter().map(|question| &question.fields);
-    let parts = std::iter::once(&text.book).chain(questions);
-    let input: Option<Vec<Vec<u8>>> = parts.map(|fields| fields.behind_length()).collect();
-    let too_long = || format!("{file}: the book is over 65,535 bytes, too long for the counter\n");
-    Ok(input.ok_or_else(too_long)?.concat())
-}
-
-fn book_refusal(file: &str, text: &Text, refusal: Refusal) -> String {
-    let place = place_word(Refused::Book, refusal).map(|_| refusal.place);
-    let line = place.and_then(|place| text.book.line_at(place));
-    show::refusal(file, line, text, Refused::Book, refusal)
-}
-
-fn kind_of(text: &Text) -> Result<Kind, String> {
-    text.kind.ok_or_else(|| of_program("a book without a kind was not refused".to_string()))
-}
-
-fn strange_term() -> String {
-    of_program("a program gave back a term that is not in the text".to_string())
-}
-
-fn of_program(why: String) -> String {
-    format!("fitting: {why}\n")
+fn strange_term() -> Trouble {
+    Trouble::Said("fitting: the library gave back a term that is not in the text\n".to_string())
 }

@@ -32,9 +32,17 @@ const DEEPEST: usize = 64;
 pub struct Question {
     pub fields: Fields,
     pub variables: Variables,
-    pub constants: Vec<u16>,
+    pub constants: Vec<Constant>,
     pub first_line: usize,
     pub last_line: usize,
+}
+
+/// A term that a question names: as what, and in which line.
+#[derive(Clone, Copy, Debug, PartialEq, Eq)]
+pub struct Constant {
+    pub term: u16,
+    pub role: Role,
+    pub line: usize,
 }
 
 /// Variables in order of appearance; those for terms and for annotations are numbered apart.
@@ -61,7 +69,7 @@ impl Variables {
     }
 }
 
-/// Too large a number is for the program to refuse; a question has no room for 65,536 of them.
+/// Too large a number is for the library to refuse; a question has no room for 65,536 of them.
 fn number_of(names: &mut Vec<String>, name: &str) -> u16 {
     let at = names.iter().position(|other| other == name).unwrap_or(names.len());
     if at == names.len() {
@@ -89,7 +97,7 @@ struct Asker<'a> {
     names: &'a mut Names,
     kind: Kind,
     variables: Variables,
-    constants: Vec<u16>,
+    constants: Vec<Constant>,
     /// The lines of the parentheses that are open.
     open: Vec<usize>,
 }
@@ -197,7 +205,7 @@ impl Asker<'_> {
         let slot = term(&mut self.cursor, self.names, role)?;
         let (mark, number) = match slot {
             Slot::Constant(term) => {
-                self.constants.push(term);
+                self.constants.push(Constant { term, role, line });
                 (CONSTANT, term)
             }
             Slot::Variable(name) => {

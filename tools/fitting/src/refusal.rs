@@ -1,6 +1,7 @@
-//! The numbers given back: the document's words for each, and what it means for a text.
+//! The numbers given back: what each means for a text, and the document's words for it.
 
-use crate::programs::Refusal;
+use crate::calls::Refusal;
+use crate::text::Text;
 
 /// What was refused.
 #[derive(Clone, Copy, Debug, PartialEq, Eq)]
@@ -8,6 +9,8 @@ pub enum Refused {
     /// The book, in reading or closing.
     Book,
     Question,
+    /// A makers' list.
+    List,
 }
 
 /// The document's words for a number.
@@ -38,6 +41,9 @@ pub fn words(number: u32) -> &'static str {
         22 => "test's annotation variable also stands in a TRIPLE outside that part",
         23 => "step count 0, over 48 or over the records lent; else the first step illegal for the kind, or the last not GIVE",
         24 => "looks used up: a look is due and none is left",
+        26 => "line not N-Triples",
+        27 => "names or text full",
+        39 => "a row with a literal subject or a term without a text",
         _ => "a number that the document does not have",
     }
 }
@@ -51,6 +57,7 @@ pub fn place_word(refused: Refused, refusal: Refusal) -> Option<&'static str> {
         (Refused::Question, 8..=10 | 17..=20) => Some("field"),
         (Refused::Question, 16) => Some("field or holder"),
         (Refused::Question, 21 | 22) => Some("ONLY field"),
+        (Refused::List, 12 | 26 | 27) => Some("line"),
         _ => None,
     }
 }
@@ -58,20 +65,56 @@ pub fn place_word(refused: Refused, refusal: Refusal) -> Option<&'static str> {
 /// What a refusal means for someone who wrote a text.
 pub fn advice(refused: Refused, refusal: Refusal) -> Option<&'static str> {
     let advice = match (refused, refusal.number) {
-        (Refused::Book, 2) => "A text has one line that says the kind, and it comes first: kind years from 2000",
-        (Refused::Book, 5) => "The first year of a book is from 1900 to 2100.",
-        (_, 9) => "The relation is a name, not a quoted text or a blank.",
-        (_, 10) => "Degrees are from 1 to 1000.",
-        (Refused::Book, 12) if refusal.place > 0 => "There is room for 1,024 rows, and this line would be one more.",
-        (Refused::Book, 12) => "There is room for 1,024 rows, and more than that follow from this book.",
-        (Refused::Book, 13) => "A book has room for 3,854 lines; the same line written twice counts twice.",
-        (Refused::Question, 12) => "There are more than 256 answers; these are the first 256.",
-        (_, 19) => "A question has at most 16 variables for names and 8 that say when.",
-        (_, 20) => "A part is each SUBJECT RELATION OBJECT WHEN, each `and` or `or` between them, and each test; there are at most 32.",
-        (_, 21) => "A variable of the test stands nowhere before its `where`, or on one side of an `or` only.",
-        (_, 22) => "A variable tested by `covers` or `>=` stands also outside the parentheses that the test is in. Test it at the end of the question, or use another variable there.",
-        (_, 24) => "The question takes too long; these are the answers before that point.",
+        (Refused::Book, 1) => "the bytes of the book are cut short",
+        (Refused::Book, 2) => "a text has one line that says the kind, and it comes first: kind years from 2000",
+        (Refused::Book, 3 | 4 | 6 | 7 | 8) => "these are not the bytes of a book",
+        (Refused::Book, 5) => "the first year of a book is from 1900 to 2100",
+        (Refused::Book | Refused::Question, 9) => "the relation is a name, not a quoted text or a blank",
+        (_, 10) => "degrees are from 1 to 1000",
+        (Refused::Book, 12) if refusal.place > 0 => "there is room for 1,024 rows, and this line would be one more",
+        (Refused::Book, 12) => "there is room for 1,024 rows, and more than that follow from this book: write a book for each maker, or fewer classes",
+        (Refused::Book, 13) => "a book has room for 3,854 lines; the same line written twice counts twice",
+        (Refused::Question, 12) => "there are more than 256 answers; these are the first 256",
+        (_, 19) => "a question has at most 16 variables for names and 8 that say when",
+        (_, 20) => "a part is each SUBJECT RELATION OBJECT WHEN, each `and` or `or` between them, and each test; there are at most 32",
+        (_, 21) => "a variable of the test stands nowhere before its `where`, or on one side of an `or` only",
+        (_, 22) => "a variable tested by `covers` or `>=` stands also outside the parentheses that the test is in: test it at the end of the question, or use another variable there",
+        (_, 24) => "the looks allowed are used up, and there may be more answers: allow more (--looks N), or ask more narrowly",
+        (Refused::List, 12) => "a makers' list has room for 1,024 rows, and this line would be one more",
+        (Refused::List, 13) => "a line of a makers' list is over 65,535 bytes",
+        (Refused::List, 26) => "this line is not N-Triples",
+        (Refused::List, 27) => "the texts of this line are over 32,768 bytes",
+        (Refused::List, 39) => "a quoted text is no subject in N-Triples",
         _ => return None,
     };
     Some(advice)
+}
+
+/// A refusal for a person: what to do, the line it is about, and the document's number with its
+/// words.
+pub fn written(
+    file: &str,
+    line: Option<usize>,
+    source: Option<&str>,
+    refused: Refused,
+    refusal: Refusal,
+) -> String {
+    let Refusal { number, place } = refusal;
+    let at = line.map_or(file.to_string(), |line| format!("{file}:{line}"));
+    let what = advice(refused, refusal).unwrap_or("this is refused");
+    let mut shown = format!("{at}: {what}\n");
+    if let Some(source) = source.filter(|source| !source.trim().is_empty()) {
+        shown += &format!("    {}\n", source.trim_start());
+    }
+    let byte = place_word(refused, refusal)
+        .map_or(String::new(), |word| format!(", {word} at byte {place}"));
+    shown + &format!("    (refused {number}{byte}: {})\n", words(number))
+}
+
+/// A refusal of a text's book, at the line that wrote the field.
+pub fn of_book(file: &str, text: &Text, refusal: Refusal) -> String {
+    let place = place_word(Refused::Book, refusal).map(|_| refusal.place);
+    let line = place.and_then(|place| text.book.line_at(place));
+    let source = line.map(|line| text.lines.line(line));
+    written(file, line, source, Refused::Book, refusal)
 }

@@ -1,7 +1,8 @@
 //! What a line is made of: its words one by one, terms, when it holds; and the lines of a book.
 
-use crate::annotation::{whole_number, Kind};
+use crate::annotation::Kind;
 use crate::names::{Names, Sort, FIVE_WORDS};
+use crate::slips;
 use crate::words::{Placed, Word};
 use crate::Fault;
 
@@ -115,30 +116,52 @@ pub fn term(cursor: &mut Cursor, names: &mut Names, role: Role) -> Result<Slot, 
     let number = match cursor.word() {
         None => Err(role.missing()),
         Some(Word::Variable(name)) => return Ok(Slot::Variable(name.clone())),
-        Some(Word::Plain(text)) => {
-            judge_name(text, role).and_then(|()| names.term(Sort::Name, text))
-        }
+        Some(Word::Plain(text)) => judge_name(text)
+            .map_err(|wrong| wrong.words(role))
+            .and_then(|()| names.term(Sort::Name, text)),
+        Some(Word::Iri(iri)) => names.iri(iri),
         Some(Word::Blank(text)) => names.term(Sort::Blank, text),
         Some(Word::Literal(text)) => names.term(Sort::Literal, text),
+        Some(Word::Comma) if role != Role::Side => Err(slips::COMMA.to_string()),
         Some(word) => Err(role.misplaced(&word.shown())),
     };
     number.map(Slot::Constant).map_err(|words| Fault::new(line, words))
 }
 
-fn judge_name(text: &str, role: Role) -> Result<(), String> {
+/// Why a plain word is no name.
+pub enum NoName<'a> {
+    Reserved(&'a str),
+    Number(&'a str),
+    Words(String),
+}
+
+impl NoName<'_> {
+    fn words(self, role: Role) -> String {
+        match self {
+            NoName::Reserved(text) => role.misplaced(&format!("`{text}`")),
+            NoName::Number(text) => {
+                let misplaced = role.misplaced(&format!("`{text}`"));
+                format!("{misplaced} (a name that is a number is put in quotes: \"{text}\")")
+            }
+            NoName::Words(words) => words,
+        }
+    }
+}
+
+pub fn judge_name(text: &str) -> Result<(), NoName<'_>> {
     if RESERVED.contains(&text) {
-        return Err(role.misplaced(&format!("`{text}`")));
+        return Err(NoName::Reserved(text));
     }
     if COMPARES.contains(&text) {
-        return Err(format!("`{text}` belongs in the tests of a question, behind `where`"));
+        let words = format!("`{text}` belongs in the tests of a question, behind `where`");
+        return Err(NoName::Words(words));
     }
     if let Some(at) = DOCUMENT_WORDS.iter().position(|word| *word == text) {
-        return Err(format!("`{text}` is written `{}` here", FIVE_WORDS[at]));
+        return Err(NoName::Words(format!("`{text}` is written `{}` here", FIVE_WORDS[at])));
     }
-    judge_capitals(text)?;
+    judge_capitals(text).map_err(NoName::Words)?;
     if text.chars().all(|letter| letter.is_ascii_digit() || "-–—.".contains(letter)) {
-        let misplaced = role.misplaced(&format!("`{text}`"));
-        return Err(format!("{misplaced} (a name that is a number is put in quotes: \"{text}\")"));
+        return Err(NoName::Number(text));
     }
     Ok(())
 }
@@ -178,8 +201,10 @@ pub fn when(cursor: &mut Cursor, kind: Kind) -> Result<Option<When>, Fault> {
         return if during { Err(cursor.fault(missing)) } else { Ok(None) };
     }
     let judged = items.iter().try_for_each(|item| judge_item(item));
-    let value =
-        judged.and_then(|()| kind.value(&items)).map_err(|words| Fault::new(line, words))?;
+    let value = judged
+        .and_then(|()| slips::judge_years(kind, &items))
+        .and_then(|()| kind.value(&items))
+        .map_err(|words| Fault::new(line, words))?;
     Ok(Some(When::Constant(value)))
 }
 
@@ -214,7 +239,7 @@ fn list_item<'a>(cursor: &Cursor<'a>, ahead: usize) -> Option<&'a str> {
     }
 }
 
-/// A line of the book: subject, relation, object, and when it holds (nothing: always).
+/// A line of the book: subject, relation, object, and when it holds.
 pub fn row(cursor: &mut Cursor, names: &mut Names, kind: Kind) -> Result<([u16; 3], u64), Fault> {
     let mut triple = [0; 3];
     for (number, role) in triple.iter_mut().zip(ROLES) {
@@ -243,9 +268,10 @@ fn no_variable(cursor: &Cursor, name: &str) -> Fault {
         .fault(format!("`?{name}` is a variable; only a question has them, and begins with `ask`"))
 }
 
-fn nothing_left(cursor: &Cursor) -> Result<(), Fault> {
+pub fn nothing_left(cursor: &Cursor) -> Result<(), Fault> {
     match cursor.peek(0) {
         None => Ok(()),
+        Some(Word::Comma) => Err(cursor.fault(slips::COMMA)),
         Some(word) if LIST_ENDS.iter().any(|end| word.is(end)) => {
             let where_it_belongs = "belongs in questions; between years stands a comma";
             Err(cursor.fault(format!("{} {where_it_belongs}", word.shown())))
@@ -254,7 +280,7 @@ fn nothing_left(cursor: &Cursor) -> Result<(), Fault> {
     }
 }
 
-/// The line that says the book's kind. Whether the first year is allowed is for the program to say.
+/// The line that says the book's kind. Whether the first year is allowed is for the library to say.
 pub fn kind(cursor: &mut Cursor) -> Result<Kind, Fault> {
     let line = cursor.line();
     cursor.word();
@@ -277,7 +303,7 @@ fn first_year(cursor: &mut Cursor) -> Result<u16, Fault> {
     let fault = cursor.fault("the first year is missing or no year: kind years from 2000");
     cursor.take("from").ok_or_else(|| fault.clone())?;
     match cursor.word() {
-        Some(Word::Plain(year)) => whole_number(year).ok_or(fault),
+        Some(Word::Plain(year)) => crate::annotation::whole_number(year).ok_or(fault),
         _ => Err(fault),
     }
 }

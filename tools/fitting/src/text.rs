@@ -1,78 +1,119 @@
 //! A whole text: the book's lines and the questions.
 
 use crate::annotation::Kind;
+use crate::encoding;
 use crate::fields::Fields;
+use crate::mentions::Mentions;
 use crate::names::Names;
 use crate::question::{question, Question};
 use crate::statement::{in_capitals, kind, row, Cursor};
-use crate::words::{words, Placed, Word};
-use crate::Fault;
-use std::collections::{HashMap, HashSet};
+use crate::words::{words, Placed, Word, MOST_WORDS, TOO_LONG};
+use crate::{Fault, Faults};
+use std::collections::HashMap;
 
 const HEAD: u8 = 1;
 const EDITION: u8 = 1;
 const ROW: u8 = 3;
 
+/// Far more than anyone asks; so many take little memory.
+const MOST_QUESTIONS: usize = 10_000;
+
 pub struct Text {
-    pub lines: Vec<String>,
+    pub lines: Lines,
     /// Not there in a text that says nothing.
     pub kind: Option<Kind>,
+    /// Numbered in the order of the names, whichever line names them first.
     pub names: Names,
     pub book: Fields,
     /// What the book's own lines say of a triple, taken together.
     pub stated: HashMap<[u16; 3], u64>,
     pub questions: Vec<Question>,
+    /// Where each term stands.
+    pub mentions: Mentions,
 }
 
-impl Text {
-    /// The lines from `first` to `last`, as they were written.
-    pub fn between(&self, first: usize, last: usize) -> &[String] {
-        self.lines.get(first.saturating_sub(1)..last).unwrap_or(&[])
+/// The lines of a text, as they were written.
+#[derive(Clone, Debug, Default)]
+pub struct Lines {
+    source: String,
+    /// Where each line begins and ends.
+    spans: Vec<(u32, u32)>,
+}
+
+impl Lines {
+    fn of(source: &str) -> Lines {
+        let start = source.as_ptr() as usize;
+        let span = |line: &str| {
+            let from = (line.as_ptr() as usize - start) as u32;
+            (from, from + line.trim_end().len() as u32)
+        };
+        Lines { spans: source.lines().map(span).collect(), source: source.to_string() }
     }
 
-    /// The terms of the book.
-    pub fn terms(&self) -> HashSet<u16> {
-        self.stated.keys().flatten().copied().collect()
+    /// The line of this number, from 1 on.
+    pub fn line(&self, number: usize) -> &str {
+        let span = number.checked_sub(1).and_then(|at| self.spans.get(at));
+        span.map_or("", |(from, to)| &self.source[*from as usize..*to as usize])
+    }
+
+    /// The lines from `first` to `last`.
+    pub fn between(&self, first: usize, last: usize) -> impl Iterator<Item = &str> {
+        (first..=last.min(self.spans.len())).map(|number| self.line(number))
     }
 }
 
-/// Reads a text, or says what is wrong with each of its lines.
-pub fn read(bytes: &[u8]) -> Result<Text, Vec<Fault>> {
-    let lines = lines(bytes).map_err(|fault| vec![fault])?;
-    let (statements, mut faults) = statements(&lines);
+/// Reads a text, or says what is wrong with its lines.
+pub fn read(bytes: &[u8]) -> Result<Text, Faults> {
+    let source = encoding::decoded(bytes).map_err(Faults::one)?;
+    let lines = Lines::of(source);
+    // Once for the names, and once more with their numbers in order.
+    let Text { lines, names, .. } = read_lines(lines, Names::default())?;
+    read_lines(lines, names.in_order())
+}
+
+fn read_lines(lines: Lines, names: Names) -> Result<Text, Faults> {
     let mut text = Text {
-        lines,
+        lines: Lines::default(),
         kind: None,
-        names: Names::default(),
+        names,
         book: Fields::default(),
         stated: HashMap::new(),
         questions: Vec::new(),
+        mentions: Mentions::default(),
     };
-    for statement in &statements {
-        if let Err(fault) = add(&mut text, &statement.words) {
-            faults.push(fault);
-        }
-        // Without a kind no other line can be read.
-        if text.kind.is_none() {
-            break;
+    let mut faults = Faults::default();
+    let mut statement = Statement::default();
+    for number in 1..=lines.spans.len() {
+        match words(lines.line(number)) {
+            Err(words) => faults.add(Fault::new(number, words)),
+            Ok(words) if words.is_empty() => {}
+            Ok(words) => {
+                if !statement.goes_on(&words[0]) {
+                    finish(&mut text, std::mem::take(&mut statement), &mut faults);
+                    // Without a kind no other line can be read.
+                    if text.kind.is_none() && faults.count() > 0 {
+                        return Err(faults);
+                    }
+                }
+                statement.add(words, number);
+            }
         }
     }
-    faults.sort_by_key(|fault| fault.line);
-    if faults.is_empty() {
-        Ok(text)
-    } else {
-        Err(faults)
+    finish(&mut text, statement, &mut faults);
+    if faults.count() > 0 {
+        return Err(faults);
     }
+    text.lines = lines;
+    Ok(text)
 }
 
-fn lines(bytes: &[u8]) -> Result<Vec<String>, Fault> {
-    let bytes = bytes.strip_prefix(b"\xEF\xBB\xBF").unwrap_or(bytes);
-    let text = std::str::from_utf8(bytes).map_err(|wrong| {
-        let before = &bytes[..wrong.valid_up_to()];
-        let line = 1 + before.iter().filter(|byte| **byte == b'\n').count();
-        Fault::new(line, "this is not plain text (UTF-8)")
-    })?;
-    Ok(text.lines().map(|line| line.trim_end().to_string()).collect())
+/// Reads a statement that is whole.
+fn finish(text: &mut Text, statement: Statement, faults: &mut Faults) {
+    let read = match (statement.is_too_long, statement.words.first()) {
+        (true, Some(first)) => Err(Fault::new(first.line, TOO_LONG)),
+        _ => add(text, &statement.words),
+    };
+    read.unwrap_or_else(|fault| faults.add(fault));
 }
 
 /// The words of a line of the book or of a question, and the parentheses open behind them.
@@ -80,10 +121,16 @@ fn lines(bytes: &[u8]) -> Result<Vec<String>, Fault> {
 struct Statement {
     words: Vec<Placed>,
     open: usize,
+    /// It went on for more words than are kept.
+    is_too_long: bool,
 }
 
 impl Statement {
     fn add(&mut self, words: Vec<Word>, line: usize) {
+        if self.words.len() + words.len() > MOST_WORDS {
+            self.is_too_long = true;
+            return;
+        }
         for word in words {
             match word {
                 Word::Open => self.open += 1,
@@ -111,44 +158,35 @@ fn goes_on_with(word: &Word) -> bool {
     ["and", "or", "where"].iter().any(|plain| word.is(plain))
 }
 
-fn statements(lines: &[String]) -> (Vec<Statement>, Vec<Fault>) {
-    let mut statements: Vec<Statement> = Vec::new();
-    let mut faults = Vec::new();
-    for (line, text) in (1..).zip(lines) {
-        match words(text) {
-            Err(words) => faults.push(Fault::new(line, words)),
-            Ok(words) if words.is_empty() => {}
-            Ok(words) => {
-                let mut statement =
-                    statements.pop_if(|last| last.goes_on(&words[0])).unwrap_or_default();
-                statement.add(words, line);
-                statements.push(statement);
-            }
-        }
-    }
-    (statements, faults)
-}
-
 fn add(text: &mut Text, words: &[Placed]) -> Result<(), Fault> {
     let mut cursor = Cursor::new(words);
+    let Some(first) = cursor.peek(0) else {
+        return Ok(());
+    };
     let line = cursor.line();
-    let begins = |plain: &str| cursor.peek(0).is_some_and(|word| word.is(plain));
-    if begins("kind") {
+    if first.is("kind") {
         let kind = kind(&mut cursor)?;
         text.kind = Some(kind);
         text.book.add(&head(kind, line));
         return Ok(());
     }
     let Some(kind) = text.kind else {
-        let first = "the first line says the kind, such as: kind years from 2000";
-        let capitals = cursor.peek(0).and_then(in_capitals);
-        return Err(Fault::new(line, capitals.unwrap_or(first.to_string())));
+        let says = "the first line says the kind, such as: kind years from 2000";
+        return Err(Fault::new(line, in_capitals(first).unwrap_or(says.to_string())));
     };
-    if begins("ask") {
-        text.questions.push(question(words, &mut text.names, kind)?);
+    if first.is("ask") {
+        if text.questions.len() == MOST_QUESTIONS {
+            return Err(Fault::new(
+                line,
+                "this is one question too many: a text has at most 10,000",
+            ));
+        }
+        let question = question(words, &mut text.names, kind)?;
+        question.constants.iter().for_each(|constant| text.mentions.asked(*constant));
+        text.questions.push(question);
         return Ok(());
     }
-    if cursor.peek(0).is_some_and(goes_on_with) {
+    if goes_on_with(first) {
         return Err(Fault::new(
             line,
             "this line goes on with a question, but none is right above it",
@@ -156,6 +194,7 @@ fn add(text: &mut Text, words: &[Placed]) -> Result<(), Fault> {
     }
     let (triple, value) = row(&mut cursor, &mut text.names, kind)?;
     text.book.add(&row_field(triple, value, line));
+    text.mentions.stated(triple, line);
     let stated = text.stated.entry(triple).or_insert(value);
     *stated = kind.join(*stated, value);
     Ok(())

@@ -1,14 +1,19 @@
 //! One line of text into words.
 
+use crate::letters::{is_odd_blank, is_unseen};
+use crate::literal;
+
 #[derive(Clone, Debug, PartialEq, Eq)]
 pub enum Word {
     /// A name, a number, a run of years, or a word of the text form.
     Plain(String),
+    /// `<http://maker.example/lamp>`, without its marks.
+    Iri(String),
     /// `?lamp`, without its mark.
     Variable(String),
     /// `_thing`, without its mark.
     Blank(String),
-    /// `"12 volt"`, without its quotes.
+    /// `"12 volt"`, from its quote on, as N-Triples has it.
     Literal(String),
     Comma,
     Open,
@@ -31,9 +36,10 @@ impl Word {
     pub fn shown(&self) -> String {
         match self {
             Word::Plain(text) => format!("`{text}`"),
+            Word::Iri(text) => literal::written_iri(text),
             Word::Variable(text) => format!("`?{text}`"),
             Word::Blank(text) => format!("`_{text}`"),
-            Word::Literal(text) => format!("\"{text}\""),
+            Word::Literal(text) => literal::written(text),
             Word::Comma => "`,`".to_string(),
             Word::Open => "`(`".to_string(),
             Word::Close => "`)`".to_string(),
@@ -41,11 +47,16 @@ impl Word {
     }
 }
 
+/// A line or a question with more words is refused: none needs nearly as many.
+pub const MOST_WORDS: usize = 10_000;
+
+pub const TOO_LONG: &str =
+    "this is too long: a line has a handful of words, and a question at most 32 parts";
+
 /// The words of a line, up to a comment.
 pub fn words(line: &str) -> Result<Vec<Word>, String> {
     if let Some(letter) = line.chars().find(|letter| is_unseen(*letter)) {
-        let code = letter as u32;
-        return Err(format!("there is a character here that cannot be printed: U+{code:04X}"));
+        return Err(unseen(letter));
     }
     let mut found = Vec::new();
     let mut rest = line.trim_start();
@@ -53,11 +64,16 @@ pub fn words(line: &str) -> Result<Vec<Word>, String> {
         if first == '#' {
             break;
         }
+        if found.len() == MOST_WORDS {
+            return Err(TOO_LONG.to_string());
+        }
         let (word, after) = match first {
             ',' => (Word::Comma, &rest[1..]),
             '(' => (Word::Open, &rest[1..]),
             ')' => (Word::Close, &rest[1..]),
-            '"' => literal(&rest[1..])?,
+            '"' => quoted(rest)?,
+            '<' => literal::read_iri(rest)
+                .and_then(|(iri, after)| Ok((Word::Iri(iri), ended(after, "`>`")?)))?,
             _ => plain(rest)?,
         };
         found.push(word);
@@ -66,39 +82,28 @@ pub fn words(line: &str) -> Result<Vec<Word>, String> {
     Ok(found)
 }
 
-/// Characters without a shape: names that differ by one look the same, and behind a line end of
-/// another sort a comment would hide what looks like a line.
-fn is_unseen(letter: char) -> bool {
-    let format = matches!(letter,
-        '\u{AD}' | '\u{200B}' | '\u{200E}' | '\u{200F}' | '\u{2028}'..='\u{202E}'
-        | '\u{2060}'..='\u{206F}' | '\u{FEFF}');
-    format || letter.is_control() && letter != '\t'
-}
-
-/// The literal whose opening quote was passed; `\"` and `\\` stand for a quote and a backslash.
-fn literal(rest: &str) -> Result<(Word, &str), String> {
-    let mut text = String::new();
-    let mut letters = rest.char_indices();
-    while let Some((at, letter)) = letters.next() {
-        match letter {
-            '"' => return behind_quote(&rest[at + 1..]).map(|after| (Word::Literal(text), after)),
-            '\\' => match letters.next() {
-                Some((_, escaped @ ('"' | '\\'))) => text.push(escaped),
-                _ => return Err(r#"in quotes, \ stands only before " or \"#.to_string()),
-            },
-            _ => text.push(letter),
-        }
+fn unseen(letter: char) -> String {
+    let code = letter as u32;
+    match letter {
+        '\r' => "a line end of an old Mac (CR) stands within this line: save the file with the line ends of your system".to_string(),
+        _ => format!("there is a character here that cannot be seen: U+{code:04X}; take it out"),
     }
-    Err("a quote is opened and not closed in this line".to_string())
 }
 
-/// What stands behind a closing quote, if that ends a word.
-fn behind_quote(after: &str) -> Result<&str, String> {
+/// A quoted text, with its language or sort if it has one.
+fn quoted(rest: &str) -> Result<(Word, &str), String> {
+    let (text, after) = literal::read(rest)?;
+    let after = ended(after, "a closing quote")
+        .map_err(|words| format!("{words} (a quote within quotes is written \\\")"))?;
+    Ok((Word::Literal(text), after))
+}
+
+/// What stands behind a closing mark, if that ends a word.
+fn ended<'a>(after: &'a str, mark: &str) -> Result<&'a str, String> {
     if after.is_empty() || after.starts_with(ends_word) {
         return Ok(after);
     }
-    Err(r#"behind a closing quote stands a space (a quote within quotes is written \")"#
-        .to_string())
+    Err(format!("behind {mark} stands a space"))
 }
 
 fn ends_word(letter: char) -> bool {
@@ -124,6 +129,11 @@ fn judge_letters(text: &str) -> Result<(), String> {
     if text.contains('"') {
         return Err(format!("{text}: a quote stands at the beginning of a word only"));
     }
+    if text.contains(';') {
+        return Err(format!(
+            "{text}: no semicolon is wanted: words stand apart by spaces, years by commas"
+        ));
+    }
     Ok(())
 }
 
@@ -137,4 +147,11 @@ fn variable(name: &str) -> Result<String, String> {
         return Err(format!("?{name}: {why}"));
     }
     Ok(name.to_string())
+}
+
+/// Whether a text can stand as one plain word, read back as itself.
+pub fn is_plain(text: &str) -> bool {
+    let held = |letter: char| ends_word(letter) || is_unseen(letter) || is_odd_blank(letter);
+    let begins = text.starts_with(['?', '_', '#', '<', '"']);
+    !text.is_empty() && !begins && !text.contains(held) && judge_letters(text).is_ok()
 }

@@ -1,18 +1,14 @@
-//! The examples of the repository, from text to bytes, through the programs, and back to text.
+//! The examples of the repository, from text to bytes, through the library, and back to text.
 
 mod common;
 use common::*;
-use fitting::commands::{execute, Command};
-
-fn example(name: &str) -> String {
-    std::fs::read_to_string(root().join("examples").join(name)).unwrap()
-}
 
 #[test]
 fn lamps_give_their_listing_and_answers() {
     let text = example("lamps.fit");
     assert_eq!(close(&text), (example("lamps.close.txt"), true));
     assert_eq!(ask(&text), (example("lamps.ask.txt"), true));
+    assert_eq!(notes(&text), Vec::<String>::new());
 }
 
 #[test]
@@ -20,6 +16,7 @@ fn degrees_give_their_listing_and_answers() {
     let text = example("degrees.fit");
     assert_eq!(close(&text), (example("degrees.close.txt"), true));
     assert_eq!(ask(&text), (example("degrees.ask.txt"), true));
+    assert_eq!(notes(&text), Vec::<String>::new());
 }
 
 /// Known for 2000 to 2002 and 2005 to 2007: no row and no answer has the years between.
@@ -38,20 +35,32 @@ fn the_two_runs_of_the_example_stay_two() {
 fn a_listing_reads_back_as_a_closed_book() {
     for name in ["lamps.fit", "degrees.fit"] {
         let (listing, _) = close(&example(name));
+        let without: Vec<&str> =
+            listing.lines().map(|line| line.split("  #").next().unwrap().trim_end()).collect();
         let (again, done) = close(&listing);
-        assert!(done && !again.contains('#'), "{again}");
-        assert_eq!(lines_of(&again), lines_of(&listing));
+        assert!(done);
+        assert_eq!(again.lines().collect::<Vec<&str>>(), without);
     }
 }
 
-/// The words of each line without comments, in one order.
-fn lines_of(listing: &str) -> Vec<Vec<&str>> {
-    let mut lines: Vec<Vec<&str>> = listing
-        .lines()
-        .map(|line| line.split('#').next().unwrap_or("").split_whitespace().collect())
-        .collect();
-    lines.sort();
-    lines
+/// The same lines in any order give the same listing and the same answers.
+#[test]
+fn the_order_of_the_lines_does_not_matter() {
+    let text = example("lamps.fit");
+    let is_row = |line: &&str| {
+        !line.is_empty() && !line.starts_with(['#', 'k', 'a', 'w']) && !line.starts_with("ask")
+    };
+    let mut rows: Vec<&str> = text.lines().filter(is_row).collect();
+    let questions =
+        text.lines().skip_while(|line| !line.starts_with("ask")).collect::<Vec<&str>>().join("\n");
+    let (listing, answers) = (close(&text), ask(&text));
+    for turn in 1..rows.len() {
+        rows.rotate_left(turn);
+        rows.reverse();
+        let turned = years(&format!("{}\n{questions}\n", rows.join("\n")));
+        assert_eq!(close(&turned), listing);
+        assert_eq!(ask(&turned), answers);
+    }
 }
 
 /// A row that holds for more years than the book's own lines say is marked too.
@@ -74,10 +83,9 @@ fn bytes_are_those_of_the_document() {
     let question = "13 0023 \
                     10 0012 01 0000 00 0002 00 0005 01 0000000000000000 \
                     14 000b 02 0000 0000000000000001";
-    let bytes = |command| execute(command, "t.fit", text.as_bytes(), &model()).ok().unwrap().output;
-    assert_eq!(bytes(Command::Book), hex(book));
+    assert_eq!(command("book t", &[text.as_bytes()]).out, hex(book));
     let counter = format!("0029 {book} 0026 {question}");
-    assert_eq!(bytes(Command::Questions), hex(&counter));
+    assert_eq!(command("questions t", &[text.as_bytes()]).out, hex(&counter));
 }
 
 fn hex(text: &str) -> Vec<u8> {
@@ -108,7 +116,7 @@ fn bench_examples_as_text() {
 fn a_very_long_name_is_listed() {
     let long = "l".repeat(70_000);
     let text = years(&format!("{long} is led 2000\nlamp is led 2001\n"));
-    let listing = format!("kind years from 2000\n{long}  is  led  2000\nlamp  is  led  2001\n");
+    let listing = format!("kind years from 2000\nlamp  is  led  2001\n{long}  is  led  2000\n");
     assert_eq!(close(&text), (listing, true));
     let (answers, done) = ask(&format!("{text}ask ?x is led 2000\n"));
     assert!(done && answers.contains(&format!("    ?x = {long}\n    1 answer, 2 looks\n")));

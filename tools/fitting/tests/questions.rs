@@ -57,7 +57,7 @@ fn constants_unbound_variables_and_no_answer() {
 /// Most often a slip of the pen.
 #[test]
 fn a_name_that_the_book_does_not_have_is_noted() {
-    let note = "Note: lde stands nowhere in the book.";
+    let note = "Note: lde stands nowhere in the book; is led meant?";
     assert_eq!(answers("ask ?x is lde ?w"), [note, "no answer, 4 looks"]);
 }
 

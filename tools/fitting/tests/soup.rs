@@ -1,9 +1,9 @@
 //! Texts of words thrown together: no text makes the reader fail, and whatever it accepts is in the
-//! document's shape, so that a program refuses it only by a number that a text can provoke.
+//! document's shape, so that the library refuses it only by a number that a text can provoke.
 
-use fitting::commands::{execute, Command};
+mod common;
+use common::command;
 use std::collections::BTreeMap;
-use std::path::Path;
 use trial::programs::{close_book_program, counter_program};
 
 struct Dice(u64);
@@ -90,8 +90,9 @@ fn soup(dice: &mut Dice) -> String {
     text
 }
 
-fn bytes(command: Command, text: &str) -> Option<Vec<u8>> {
-    execute(command, "t.fit", text.as_bytes(), Path::new("")).ok().map(|outcome| outcome.output)
+fn bytes(words: &str, text: &str) -> Option<Vec<u8>> {
+    let printed = command(words, &[text.as_bytes()]);
+    Some(printed.out).filter(|_| printed.code == 0)
 }
 
 #[test]
@@ -100,8 +101,7 @@ fn what_is_accepted_is_in_the_documents_shape() {
     let mut numbers: BTreeMap<u32, usize> = BTreeMap::new();
     for _ in 0..4_000 {
         let text = soup(&mut dice);
-        let (Some(book), Some(questions)) =
-            (bytes(Command::Book, &text), bytes(Command::Questions, &text))
+        let (Some(book), Some(questions)) = (bytes("book t", &text), bytes("questions t", &text))
         else {
             continue;
         };
@@ -117,4 +117,65 @@ fn what_is_accepted_is_in_the_documents_shape() {
     assert!(numbers.keys().all(|number| from_text.contains(number)), "{numbers:?}");
     let dealt = |number: u32| numbers.get(&number).copied().unwrap_or(0);
     assert!(dealt(0) > 1_000 && dealt(21) > 100 && dealt(22) > 10, "{numbers:?}");
+}
+
+/// Every command ends with one of the exit codes, and says something where it refuses.
+#[test]
+fn no_text_makes_a_command_fail() {
+    let mut dice = Dice(23);
+    for _ in 0..300 {
+        let text = soup(&mut dice);
+        for words in [
+            "check t",
+            "close t",
+            "ask t --looks 2000",
+            "page t --looks 2000",
+            "names t",
+            "export t --to csv --closed",
+        ] {
+            let printed = command(words, &[text.as_bytes()]);
+            assert!(
+                printed.code == 0 || printed.code == 1 && printed.err.len() + printed.out.len() > 0,
+                "{text}"
+            );
+        }
+    }
+}
+
+/// Bytes thrown together, as every sort of file.
+#[test]
+fn no_bytes_make_a_command_fail() {
+    let mut dice = Dice(42);
+    let pieces: [&[u8]; 16] = [
+        b"kind sheets\n",
+        b"lamp ",
+        b"is ",
+        b"\"",
+        b"<m:a> ",
+        b"\\u",
+        b"3\n",
+        b"\x01\0\x04\x01\x01\x07\xD0",
+        b"\xFF",
+        b"\xEF\xBB\xBF",
+        b"_:b ",
+        b".\n",
+        b",",
+        b"subject,relation,object,sheets\n",
+        b"\r",
+        b"5 ",
+    ];
+    for _ in 0..2_000 {
+        let bytes: Vec<u8> =
+            (0..dice.below(12)).flat_map(|_| pieces[dice.below(pieces.len())].to_vec()).collect();
+        for words in [
+            "check t",
+            "text t",
+            "import t --from csv",
+            "import t --from nt --kind sheets --when 3",
+        ] {
+            let printed = command(words, &[&bytes]);
+            assert!(printed.code == 0 || !printed.err.is_empty(), "{words}: {bytes:?}");
+        }
+        command("text t --names names", &[b"\x01\0\x04\x01\x01\x07\xD0", &bytes]);
+    }
 }
