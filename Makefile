@@ -59,8 +59,8 @@ host: target/staticlib/libtrackvesper.a
 	cc -std=c11 -Wall -Wextra -Werror -O2 -o target/host/triples examples/triples.c target/staticlib/libtrackvesper.a
 	c++ -std=c++11 -Wall -Wextra -Werror -O2 -o target/host/close_book_cpp examples/close_book.cpp target/staticlib/libtrackvesper.a
 
-# The text form for people: target/fitting/release/fitting (tools/fitting/README.md).
-fitting:
+# The text form for people, over the proved library: target/fitting/release/fitting (tools/fitting/README.md).
+fitting: target/staticlib/libtrackvesper.a
 	$(call needs,cargo,Rust builds the text form in tools/fitting)
 	cd tools/fitting && CARGO_TARGET_DIR=../../target/fitting cargo build --release --offline --quiet
 
