@@ -65,7 +65,7 @@ module _ (kind : ℕ) (l : Lanes) (n : ℕ) (w : Sound kind l n) (closed : List 
 
 module _ (kind : ℕ) (l : Lanes) (n : ℕ) (m : Lanes) (place count : ℕ) (a : Closing kind l n m 0 place count) where
   -- a done closing was of a sound table
-  was-sound : Sound kind l n
+  pub was-sound : Sound kind l n
   was-sound = go (decLt 0 (first (tableChecks kind l n) .number))
     where
       go : Dec (0 < first (tableChecks kind l n) .number) → Sound kind l n

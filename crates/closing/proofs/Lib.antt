@@ -4,3 +4,4 @@ pub mod Whole
 -- What is shown of the public call.
 pub mod CloseDetermined
 pub mod CloseCloses
+pub mod ByYear

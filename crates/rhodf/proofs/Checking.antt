@@ -34,11 +34,11 @@ all-true (true ∷ bs) e = (refl, all-true bs e)
 all-true (false ∷ bs) e = absurd (false≢true e)
 
 -- a test at the triple of every row
-abbrev everywhere : (Triple → Bool) → List Row → Bool
+abbrev pub everywhere : (Triple → Bool) → List Row → Bool
 everywhere test [] = true
 everywhere test (x ∷ xs) = allOf (test (tripleOf x) ∷ everywhere test xs ∷ [])
 
-holds-everywhere : (test : Triple → Bool) (rows : List Row) → everywhere test rows ≡ true → (t : Triple) → 0 < valueAt rows t → test t ≡ true
+pub holds-everywhere : (test : Triple → Bool) (rows : List Row) → everywhere test rows ≡ true → (t : Triple) → 0 < valueAt rows t → test t ≡ true
 holds-everywhere test [] e t h = absurd (omega (arith, value-none t))
 holds-everywhere test (x ∷ xs) e t h =
     let both = all-true (test (tripleOf x) ∷ everywhere test xs ∷ []) e in

@@ -28,7 +28,7 @@ rows-valued kind rows s = record { value = λ t. go t (tri 0 (valueAt rows t)) }
 
 module _ (K : Algebra) (L : Laws K) (r : Row) (rows : List Row) (small : Small r) (smalls : AllSmall rows) (ascending : Ascending rows) where
   -- at the row's triple the join, elsewhere as before
-  at-each : (P : Triple → ℕ → Type 0) → P (tripleOf r) (K .join (valueAt rows (tripleOf r)) (r .a)) → ((t : Triple) → P t (valueAt rows t))
+  pub at-each : (P : Triple → ℕ → Type 0) → P (tripleOf r) (K .join (valueAt rows (tripleOf r)) (r .a)) → ((t : Triple) → P t (valueAt rows t))
       → (t : Triple) → P t (valueAt (addRow K r rows) t)
   at-each P here elsewhere t = go (isTriple t r) refl
     where

@@ -9,7 +9,11 @@ pub mod ClosedStays
 pub mod Larger
 pub mod NoMoreRows
 pub mod Deciding
+pub mod ClosureInduction
 pub mod ExistsFor
+pub mod YearByYear
+pub mod Readings
+pub mod Years
 -- What is shown for the rules of rho-df.
 pub mod RulesDecided
 pub mod Exists
@@ -17,3 +21,4 @@ pub mod Exists
 pub mod Checking
 pub mod DrawnClosure
 pub mod ExamplesHold
+pub mod YearExamplesHold

@@ -2,4 +2,6 @@
 pub mod Graph
 pub mod Rules
 pub mod Closure
+pub mod Plain
 pub mod Examples
+pub mod YearExamples
