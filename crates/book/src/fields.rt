@@ -8,7 +8,7 @@ use field::Field;
 use field::reader::field;
 use field::reader::moved;
 use field::reader::stand;
-use table::put_found;
+use table::put_row;
 use table::room_number;
 
 // Where the next field begins, and the rows so far.
@@ -47,7 +47,7 @@ fn read_field(
             count,
         };
     }
-    let done = put_found(
+    let done = put_row(
         kind,
         subj,
         pred,
@@ -58,7 +58,6 @@ fn read_field(
         content.p,
         content.o,
         content.a,
-        count,
     );
     FieldDone {
         number: room_number(done.full),

@@ -15,7 +15,7 @@ use ntline::lines::Line;
 use ntline::lines::Span;
 use ntline::lines::parse;
 use table::NO_ROOM;
-use table::put_found;
+use table::put_row;
 
 pub const NOT_NTRIPLES: u8 = 26;
 
@@ -115,7 +115,7 @@ fn triple(
             names,
         };
     }
-    let done = put_found(kind, subj, pred, obj, ann, count, t.s, t.p, t.o, a, count);
+    let done = put_row(kind, subj, pred, obj, ann, count, t.s, t.p, t.o, a);
     if done.full {
         return LineDone {
             number: NO_ROOM,

@@ -1,10 +1,10 @@
--- The bench examples hold for the definitions. Assumes nothing.
+-- The examples hold for the definitions. Assumes nothing.
 use mathlib.Core.Path.{refl}
 use mathlib.Core.List.{[]}
 use Rattle.ground.specs.Lists.{Every}
 use Rattle.annotation.specs.Kinds.{algebra}
 use Rattle.table.specs.Rows.{addRow}
-use Rattle.table.specs.Examples.{P2, examples}
+use Rattle.table.specs.Examples.{P2, examples, GoesBetween, Joins, GoesFirst, GoesLast, GoesAlone, placings}
 
 p2 : P2
 unfolding addRow algebra
@@ -12,3 +12,26 @@ p2 = refl
 
 pub examples-hold : Every examples
 examples-hold = (p2, tt)
+
+goes-between : GoesBetween
+unfolding addRow algebra
+goes-between = refl
+
+joins : Joins
+unfolding addRow algebra
+joins = refl
+
+goes-first : GoesFirst
+unfolding addRow algebra
+goes-first = refl
+
+goes-last : GoesLast
+unfolding addRow algebra
+goes-last = refl
+
+goes-alone : GoesAlone
+unfolding addRow algebra
+goes-alone = refl
+
+pub placings-hold : Every placings
+placings-hold = (goes-between, (joins, (goes-first, (goes-last, (goes-alone, tt)))))

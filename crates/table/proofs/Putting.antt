@@ -1,4 +1,4 @@
--- What `put` leaves, in each of its three cases: joined, put in, full. Assumes nothing.
+-- What `put_at` leaves, in each of its three cases: joined, put in, full. Assumes nothing.
 use mathlib.Core.Path.{_≡_, refl, sym, ap, _∙_}
 use mathlib.Core.Bool.{Bool, true, false, true≢false, false≢true}
 use mathlib.Core.List.{List, [], _∷_}

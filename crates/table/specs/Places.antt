@@ -55,6 +55,11 @@ pub record Between (subj pred obj : List ℕ) (n k low high : ℕ) : Type 0 wher
   pub before : (i : ℕ) → i < low → keyAt subj pred obj i < k
   pub reached : high < n → k ≤ keyAt subj pred obj high
 
+-- strides go from `start` towards the first row: the rows from there on are not below k
+pub record Striding (subj pred obj : List ℕ) (n k start : ℕ) : Type 0 where
+  pub ordered : Ordered subj pred obj n
+  pub between : Between subj pred obj n k 0 start
+
 -- a halving of some rows leaves fewer
 pub record Halving (subj pred obj : List ℕ) (n k low high : ℕ) : Type 0 where
   pub ordered : Ordered subj pred obj n

@@ -21,6 +21,7 @@ pub use lane::zero_u64;
 pub use places::find;
 pub use put::PutDone;
 pub use put::put_found;
+pub use put::put_row;
 pub use put::wipe;
 pub use rows::PREDICATE_WEIGHT;
 pub use rows::SUBJECT_WEIGHT;
@@ -102,7 +103,7 @@ pub fn add(
             count,
         };
     }
-    let done = put::put(kind, subj, pred, obj, ann, count, s, p, o, a);
+    let done = put::put_row(kind, subj, pred, obj, ann, count, s, p, o, a);
     Added {
         number: room_number(done.full),
         place: 0,

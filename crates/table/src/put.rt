@@ -9,7 +9,7 @@ use crate::lane::open_u16;
 use crate::lane::open_u64;
 use crate::lane::zero_u16;
 use crate::lane::zero_u64;
-use crate::places::find_near;
+use crate::places::is_place;
 use crate::places::place;
 use crate::places::stands;
 use crate::rows::key_of;
@@ -91,27 +91,7 @@ fn put_at(
     }
 }
 
-// Puts a row in, its place found by walking: for a row that is added.
-pub fn put(
-    kind: u8,
-    subj: &mut [u16],
-    pred: &mut [u16],
-    obj: &mut [u16],
-    ann: &mut [u64],
-    count: usize,
-    s: u16,
-    p: u16,
-    o: u16,
-    a: u64,
-) -> PutDone
-    requires { ⌜ PutInto kind (row s p o a) (lent subj pred obj ann) count ⌝ }
-    ensures { λ r. ⌜ Put kind (row s p o a) (before subj pred obj ann) count (after subj pred obj ann) (r .full) (r .changed) (r .count) ⌝ }
-{
-    let at = place(subj, pred, obj, count, key_of(s, p, o));
-    put_at(kind, subj, pred, obj, ann, count, at, s, p, o, a)
-}
-
-// The same, its place looked for at `hint` first and then found by halving: for rows that are read or drawn.
+// Puts a row in, its place looked for from `hint` on: for a row that is drawn.
 pub fn put_found(
     kind: u8,
     subj: &mut [u16],
@@ -128,6 +108,29 @@ pub fn put_found(
     requires { ⌜ PutInto kind (row s p o a) (lent subj pred obj ann) count ⌝ }
     ensures { λ r. ⌜ Put kind (row s p o a) (before subj pred obj ann) count (after subj pred obj ann) (r .full) (r .changed) (r .count) ⌝ }
 {
-    let at = find_near(subj, pred, obj, count, key_of(s, p, o), hint);
+    let at = place(subj, pred, obj, count, key_of(s, p, o), hint);
     put_at(kind, subj, pred, obj, ann, count, at, s, p, o, a)
+}
+
+// The same, from behind the last row on: for a row that is added or read. Books nearly always come sorted, and then the one look at the last
+// row tells.
+pub fn put_row(
+    kind: u8,
+    subj: &mut [u16],
+    pred: &mut [u16],
+    obj: &mut [u16],
+    ann: &mut [u64],
+    count: usize,
+    s: u16,
+    p: u16,
+    o: u16,
+    a: u64,
+) -> PutDone
+    requires { ⌜ PutInto kind (row s p o a) (lent subj pred obj ann) count ⌝ }
+    ensures { λ r. ⌜ Put kind (row s p o a) (before subj pred obj ann) count (after subj pred obj ann) (r .full) (r .changed) (r .count) ⌝ }
+{
+    if is_place(subj, pred, obj, count, key_of(s, p, o), count) {
+        return put_at(kind, subj, pred, obj, ann, count, count, s, p, o, a);
+    }
+    put_found(kind, subj, pred, obj, ann, count, s, p, o, a, count)
 }

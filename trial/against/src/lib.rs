@@ -13,6 +13,7 @@ pub mod catalogue;
 pub mod closings;
 pub mod difference;
 pub mod peers;
+pub mod places;
 pub mod plain_triples;
 pub mod process;
 pub mod questions;

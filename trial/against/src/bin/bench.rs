@@ -8,7 +8,7 @@
 
 use against::running::Running;
 use against::stored_questions::{ann, con, holder, triple, var, BOTH, EITHER};
-use against::{asking, baseline, calls, catalogue, plain_triples, records, slow};
+use against::{asking, baseline, calls, catalogue, places, plain_triples, records, slow};
 use std::hint::black_box;
 use std::path::Path;
 use std::process::{Command, Stdio};
@@ -227,6 +227,34 @@ fn measure_reading(rows: u16) {
     ratio_line("reading", rows.len(), proved, plain);
 }
 
+/// Rows that come in some order: the looks a row and the time of each search in plain Rust, and the
+/// proved adding, which checks the table before each row, and reading.
+fn measure_placing(order: &str, rows: u16) {
+    let rows = places::in_order(order, &annotated(3, &workshop(rows)));
+    let (mut looks, mut times) = (Vec::new(), Vec::new());
+    for (_, search) in places::SEARCHES {
+        looks.push(places::placed(&rows, search).1 as f64 / rows.len() as f64);
+        times.push(best(|| {
+            black_box(places::placed(black_box(&rows), search));
+        }));
+    }
+    let mut lanes = Lanes::zero(1024);
+    let adding = best(|| {
+        rows.iter().fold(0, |count, row| calls::add(3, &mut lanes, count, *row).count);
+    });
+    let bytes = book::bytes_of(3, 0, &rows);
+    let reading = best(|| {
+        black_box(calls::read(black_box(&bytes), &mut lanes));
+    });
+    let shown = |of: &[f64]| of.iter().map(|n| format!("{n:9.1}")).collect::<String>();
+    println!(
+        "{order:10} {:5} {} {} {adding:9.0} {reading:9.1}",
+        rows.len(),
+        shown(&looks),
+        shown(&times)
+    );
+}
+
 fn measure_compiling(name: &str, bytes: &[u8]) {
     let mut records = records::marked(MOST_STEPS);
     let mut steps = vec![Step::default(); MOST_STEPS];
@@ -348,6 +376,13 @@ fn main() {
     for rows in [100, 300, 1000] {
         measure_reading(rows);
     }
+    println!("\nplacing     rows   looks a row: walk, halving, strides    us: walk, halving, strides    adding   reading");
+    for order in places::ORDERS {
+        for rows in [100, 1000] {
+            measure_placing(order, rows);
+        }
+    }
+    println!("\nwhat                                   size   proved, us    plain, us    ratio");
     measure_compiling("compiling two parts", &on_vans());
     measure_compiling("compiling either", &two_joins());
     for (lines, entries) in [(500, 400), (500, 200), (500, 100), (250, 400), (250, 200), (250, 100)]

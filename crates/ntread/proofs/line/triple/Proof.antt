@@ -26,8 +26,8 @@ returns c =
       λ e. absurd (omega (arith, e)),
     )
 
-put-found-requires : tie.Need-put-found-requires
-put-found-requires c κs =
+put-row-requires : tie.Need-put-row-requires
+put-row-requires c κs =
     let the-args = c .before .before .before .before .before .before .before .before .before .before .before .before .before .before .before .before .before .before .before .before .before .before .before .before .before .before .before .before .before .before .before .args in
     let the-pre = c .before .before .before .before .before .before .before .before .before .before .before .before .before .before .before .before .before .before .before .before .before .before .before .before .before .before .before .before .before .before .before .pre in
     let the-three = c .before .before .before .before .before .before .before .before .before .before .before .before .before .before .before .three in
@@ -40,9 +40,9 @@ returns-2 c =
     let the-pre = c .before .before .before .before .before .before .before .before .before .before .before .before .before .before .before .before .before .before .before .before .before .before .before .before .before .before .before .before .before .before .before .before .before .before .before .before .before .before .before .before .before .pre in
     let the-three = c .before .before .before .before .before .before .before .before .before .before .before .before .before .before .before .before .before .before .before .before .before .before .before .before .before .three in
     let the-if1 = c .before .before .before .before .before .before .before .before .before .before .before .before .before .before .if1 in
-    let the-put-found = c .before .before .before .before .before .before .before .before .before .put-found in
+    let the-put-row = c .before .before .before .before .before .before .before .before .before .put-row in
     let the-if2 = c .if2 in (
-      (λ x y z sx sy sz. triple-full (the-args .kind) (the-args .a) (lanes (the-args .subj .now) (the-args .pred .now) (the-args .obj .now) (the-args .ann .now)) (the-args .count) (lanesOf (the-args .terms .now) (the-args .ends .now) (the-args .text .now)) (the-args .names) (the-pre .0 .into) x y z _ _ (the-three .ensures .0 x y z sx sy sz) (the-if1 .left) _ _ _ _ (the-put-found .ensures) (the-if2 .taken)),
+      (λ x y z sx sy sz. triple-full (the-args .kind) (the-args .a) (lanes (the-args .subj .now) (the-args .pred .now) (the-args .obj .now) (the-args .ann .now)) (the-args .count) (lanesOf (the-args .terms .now) (the-args .ends .now) (the-args .text .now)) (the-args .names) (the-pre .0 .into) x y z _ _ (the-three .ensures .0 x y z sx sy sz) (the-if1 .left) _ _ _ _ (the-put-row .ensures) (the-if2 .taken)),
       λ e. absurd (omega (arith, e)),
     )
 
@@ -52,9 +52,9 @@ returns-3 c =
     let the-pre = c .before .before .before .before .before .before .before .before .before .before .before .before .before .before .before .before .before .before .before .before .before .before .before .before .before .before .before .before .before .before .before .before .before .before .before .before .before .before .before .before .before .pre in
     let the-three = c .before .before .before .before .before .before .before .before .before .before .before .before .before .before .before .before .before .before .before .before .before .before .before .before .before .three in
     let the-if1 = c .before .before .before .before .before .before .before .before .before .before .before .before .before .before .if1 in
-    let the-put-found = c .before .before .before .before .before .before .before .before .before .put-found in
+    let the-put-row = c .before .before .before .before .before .before .before .before .before .put-row in
     let the-if2 = c .if2 in (
-      (λ x y z sx sy sz. triple-put (the-args .kind) (the-args .a) (lanes (the-args .subj .now) (the-args .pred .now) (the-args .obj .now) (the-args .ann .now)) (the-args .count) (lanesOf (the-args .terms .now) (the-args .ends .now) (the-args .text .now)) (the-args .names) (the-pre .0 .into) x y z _ _ (the-three .ensures .0 x y z sx sy sz) (the-if1 .left) _ _ _ _ (the-put-found .ensures) (the-if2 .left)),
+      (λ x y z sx sy sz. triple-put (the-args .kind) (the-args .a) (lanes (the-args .subj .now) (the-args .pred .now) (the-args .obj .now) (the-args .ann .now)) (the-args .count) (lanesOf (the-args .terms .now) (the-args .ends .now) (the-args .text .now)) (the-args .names) (the-pre .0 .into) x y z _ _ (the-three .ensures .0 x y z sx sy sz) (the-if1 .left) _ _ _ _ (the-put-row .ensures) (the-if2 .left)),
       λ e. the-three .ensures .1 (the-if1 .left),
     )
 
@@ -69,7 +69,7 @@ triple-spec =
     (λ c. search needs)
     (λ c. search needs)
     returns
-    put-found-requires
+    put-row-requires
     (λ c. search needs)
     (λ c. search needs)
     (λ c. search needs)

@@ -1,47 +1,56 @@
--- The invariant: every row passed is below the key.
-use Prim.Native.Nat.{ℕ, _≤_, _<_, _-_}
+-- The invariant, as in `find`: rows below low are below the key, and row high is not.
+use mathlib.Core.Path.{_≡_}
+use Prim.Native.Nat.{_-_}
 use native.Mathlib.Omega.{arith}
-use borrow.Author.Needs.{needs}
-use borrow.Author.Count.{below-more}
-use Rattle.table.specs.Rows.{keyAt}
+use Rattle.table.specs.Places.{Between}
 use Rattle.table.proofs.places.place.Statement.{statement}
 use Rattle.table.proofs.places.place.Tie as tie
 
 abbrev Inv-loop : tie.InvT-loop
-Inv-loop subj pred obj count key i₀ i = (i ≤ count) × ((k : ℕ) → k < i → keyAt subj pred obj k < key)
+Inv-loop subj pred obj count key hint start low₀ high₀ low high = Between subj pred obj count key low high
 
 abbrev μ-loop : tie.MeasureT-loop
-μ-loop subj pred obj count key i₀ i = count - i
+μ-loop subj pred obj count key hint start low₀ high₀ low high = high - low
 
-returns : tie.Need-returns Inv-loop μ-loop
-returns c =
-    let the-loop = c .before .before .before .loop in
-    let the-key-at = c .before .key-at in
-    let the-if1 = c .if1 in
-    record { within = the-loop .inv .0; before = the-loop .inv .1; reached = λ q. rw (← the-key-at .ensures) (the-if1 .taken) }
+begin-requires : tie.Need-begin-requires Inv-loop μ-loop
+begin-requires c κs =
+    let the-pre = c .before .before .before .pre in
+    the-pre
+
+stride-requires : tie.Need-stride-requires Inv-loop μ-loop
+stride-requires c κs =
+    let the-pre = c .before .before .before .before .pre in
+    let the-begin = c .begin in
+    record { ordered = the-pre; between = the-begin .ensures }
+
+loop-holds : tie.Need-loop-holds Inv-loop μ-loop
+loop-holds c =
+    let the-stride = c .stride in
+    the-stride .ensures
+
+halve-requires : tie.Need-halve-requires Inv-loop μ-loop
+halve-requires c κs =
+    let the-pre = c .before .before .before .before .before .before .before .pre in
+    let the-loop-test = c .loop-test in
+    let the-loop = c .before .loop in
+    record { ordered = the-pre; some = the-loop-test .taken; between = the-loop .inv }
+
+loop-less : tie.Need-loop-less Inv-loop μ-loop
+loop-less c =
+    let the-halve = c .halve in
+    the-halve .ensures .fewer
 
 loop-again : tie.Need-loop-again Inv-loop μ-loop
 loop-again c =
-    let the-loop = c .before .before .before .loop in
-    let the-key-at = c .before .key-at in
-    let the-if1 = c .if1 in
-    (search needs, below-more _ _ (the-loop .inv .1) (rw (← the-key-at .ensures) (the-if1 .left)))
+    let the-halve = c .halve in
+    the-halve .ensures .between
 
-returns-2 : tie.Need-returns-2 Inv-loop μ-loop
-returns-2 c =
+returns : tie.Need-returns Inv-loop μ-loop
+returns c =
     let the-loop = c .before .loop in
-    record { within = the-loop .inv .0; before = the-loop .inv .1; reached = λ q. absurd (omega arith) }
+    let e : the-loop .low ≡ the-loop .high = omega (arith, the-loop .inv .kept) in
+    record { within = omega (arith, the-loop .inv .within); before = the-loop .inv .before; reached = λ q. rw e (the-loop .inv .reached (rw (← e) q)) }
 
 pub place-spec : {M : Type 1} → statement M
 place-spec =
-    tie.close
-    (tie.spec
-    Inv-loop
-    μ-loop
-    (λ c. search needs)
-    (λ c κs. search needs)
-    returns
-    (λ c. search needs)
-    (λ c. search needs)
-    loop-again
-    returns-2)
+    tie.close (tie.spec Inv-loop μ-loop begin-requires stride-requires loop-holds halve-requires loop-less loop-again returns)

@@ -7,8 +7,8 @@ put-at-requires : tie.Need-put-at-requires
 put-at-requires c κs =
     let the-pre = c .before .before .before .before .before .before .before .before .before .before .before .before .before .pre in
     let the-key-of = c .before .before .before .before .before .key-of in
-    let the-find-near = c .before .before .before .before .find-near in
-    record { into = the-pre; placed = rw (← the-key-of .ensures) (the-find-near .ensures) }
+    let the-place = c .before .before .before .before .place in
+    record { into = the-pre; placed = rw (← the-key-of .ensures) (the-place .ensures) }
 
 pub put-found-spec : {M : Type 1} → statement M
 put-found-spec =
