@@ -33,6 +33,8 @@ enum {
     TRACKVESPER_MOST_ANSWERS = 256,      /* answers of a run */
     TRACKVESPER_ANSWER_TERMS = 16,       /* terms of an answer, one for each term variable */
     TRACKVESPER_ANSWER_ANNOTATIONS = 8,  /* annotations of an answer */
+    TRACKVESPER_MILLIAMPS = 49152,       /* a measured value is this and so many milliamps */
+    TRACKVESPER_MOST_MILLIAMPS = 16382,
     TRACKVESPER_UNBOUND = 65535          /* the term of a variable that an answer does not bind; its annotation is 0 */
 };
 
@@ -54,7 +56,7 @@ enum {
     TRACKVESPER_BASE_YEAR = 5,
     TRACKVESPER_TAG = 6,            /* a field that is neither head nor row */
     TRACKVESPER_LENGTH = 7,         /* a row's field of another length */
-    TRACKVESPER_TERM = 8,           /* no such term */
+    TRACKVESPER_TERM = 8,           /* TRACKVESPER_UNBOUND as a term */
     TRACKVESPER_PREDICATE = 9,      /* the predicate is not a name */
     TRACKVESPER_ANNOTATION = 10,    /* the annotation is not legal */
     TRACKVESPER_LANES = 11,         /* lanes of unequal length, or too long */

@@ -49,7 +49,7 @@ pub struct Pattern {
     pub ann: AnnSlot,
 }
 
-/// 18 mark, 19 variable, 8 sort, 9 predicate; 0 if legal. Only the second slot of a TRIPLE is a
+/// 18 mark, 19 variable, 8 unbound, 9 predicate; 0 if legal. Only the second slot of a TRIPLE is a
 /// predicate.
 pub fn judge_term(slot: Slot, predicate: bool) -> u32 {
     match slot.mark {

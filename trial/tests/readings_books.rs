@@ -5,7 +5,7 @@ use common::*;
 use trial::book::{self, ReadOut};
 use trial::table::{Lanes, Row};
 
-const BAD: u16 = 49_152;
+const BAD: u16 = 65_535;
 
 /// Reads into eight lanes of old rows, and sees to what is left behind.
 fn read(bytes: &[u8]) -> ReadOut {
@@ -138,7 +138,7 @@ fn twelve_is_last_within_its_field() {
     assert_eq!(number(&[&full[..], &[9]].concat()), (12, 7 + 8 * 17));
     // A fault in the field itself is.
     let mut bad = full.clone();
-    bad[7 + 8 * 17 + 3] = 255;
+    bad[7 + 8 * 17 + 3..][..2].fill(255);
     assert_eq!(number(&bad), (8, 7 + 8 * 17));
     // An equal triple needs no room, and the next field is read.
     let eight = &full[..7 + 8 * 17];

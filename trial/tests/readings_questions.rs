@@ -7,7 +7,7 @@ use trial::question::{self, bytes_of, field, Part, Test};
 use trial::question::{BOTH, EITHER, ONLY, TEST, TRIPLE};
 use trial::steps::Step;
 
-const BAD: u16 = 49_152;
+const BAD: u16 = 65_535;
 
 fn t() -> Vec<u8> {
     bytes_of(&plain())

@@ -8,7 +8,7 @@ use trial::question::Test;
 use trial::steps::{self, Step};
 use trial::table::{self, Lanes, Row};
 
-const BAD: u16 = 49_152;
+const BAD: u16 = 65_535;
 
 fn seek(subj: Slot, pred: Slot, obj: Slot, ann: AnnSlot) -> Step {
     Step { subj, pred, obj, ann, ..Step::default() }

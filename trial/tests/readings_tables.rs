@@ -6,7 +6,7 @@ use trial::table::{self, Lanes, Row};
 use trial::{annotation, book, closing};
 
 const BLANK: u16 = 16_384;
-const BAD: u16 = 49_152;
+const BAD: u16 = 65_535;
 
 fn check(kind: u8, rows: &[Row]) -> (u32, u64) {
     let verdict = table::check(kind, &lanes(rows, rows.len()), rows.len());

@@ -7,7 +7,7 @@ use trial::steps::{self, Step};
 use trial::table::{self, Lanes, Row};
 use trial::{book, closing};
 
-const BAD: u16 = 49_152;
+const BAD: u16 = 65_535;
 
 fn read(bytes: &[u8], room: usize) -> (u32, u64) {
     let out = book::read(bytes, &mut Lanes::zero(room));

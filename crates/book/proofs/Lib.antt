@@ -10,3 +10,4 @@ pub mod RoundTrip
 pub mod BookDetermined
 pub mod BookReadsBack
 pub mod ReadsSound
+pub mod ValuesHold

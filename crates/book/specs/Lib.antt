@@ -3,3 +3,4 @@ pub mod Format
 pub mod Reading
 pub mod Writing
 pub mod Inner
+pub mod Values

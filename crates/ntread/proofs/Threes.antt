@@ -5,8 +5,9 @@ use mathlib.Core.List.{List}
 use Prim.Native.Nat.{ℕ, _≤_}
 use native.Mathlib.Omega.{arith}
 use lib.ListN.{length}
-use borrow.Author.Tests.{eq-eqb, le-leb}
+use borrow.Author.Tests.{eq-eqb}
 use Rattle.term.specs.Term.{sortOf}
+use Rattle.term.proofs.Sorts.{sort-legal}
 use Rattle.table.specs.Rows.{Row, Lanes, row, rowsOf}
 use Rattle.table.specs.Putting.{PutInto, Put}
 use Rattle.table.proofs.Laid.{as-long-self}
@@ -111,9 +112,9 @@ module _ (kind a : ℕ) (l : Lanes) (count : ℕ) (n : NameLanes) (names : ℕ) 
     triple-ready hs hp ho = record {
       sound = into .sound;
       legal = record {
-        subject = le-leb (sortOf (t .s)) 2 (rw (T .subject e) hs);
+        subject = sort-legal (t .s) (rw (T .subject e) hs);
         predicate = eq-eqb (sortOf (t .p)) 0 (T .predicate e ∙ hp);
-        object = le-leb (sortOf (t .o)) 2 (rw (T .object e) ho);
+        object = sort-legal (t .o) (rw (T .object e) ho);
         annotation = into .legal;
       };
     }

@@ -1,12 +1,12 @@
 -- Writing is canonical (T3): a legal text is read as it is written, so each line is read to the row's triple. Assumes nothing.
 use mathlib.Core.Path.{_≡_, refl, sym, ap, subst, _∙_}
-use mathlib.Core.Bool.{Bool, true, false, not, cond, _&&_, _||_}
+use mathlib.Core.Bool.{Bool, true, false, not, cond, _&&_}
 use mathlib.Core.List.{List, [], _∷_, _++_, append-assoc, append-nil}
 use Prim.Native.Nat.{ℕ, zero, suc, _+_, _≤_, _<_}
 use native.Mathlib.Omega.{arith}
 use lib.ListN.{length, length-append}
-use lib.Dec.{eqb, leb}
-use borrow.Author.Tests.{eqb-true, eqb-false, leb-true, not-false}
+use lib.Dec.{eqb}
+use borrow.Author.Tests.{eqb-true, eqb-false, not-false}
 use Rattle.ground.proofs.Bools.{neither}
 use Rattle.ground.specs.Lists.{tab}
 use Rattle.utf8.specs.Characters.{oneOctet, charBytes, textBytes}
@@ -16,7 +16,7 @@ use Rattle.ntline.specs.Grammar as grammar
 use Rattle.ntline.specs.Lines.{Source, sourceOf, meantBy}
 use Rattle.ntline.proofs.Sound.{TermThere, term-there}
 use Rattle.ntline.proofs.Encoded.{all-append, white-all, object-all}
-use Rattle.term.specs.Refusal.{Check, refuse, done, first}
+use Rattle.term.specs.Refusal.{Check, done, first}
 use Rattle.term.specs.declared.refusal.Verdict.{Verdict}
 use Rattle.term.specs.Term.{sortOf}
 use Rattle.term.proofs.Firsts.{Numbered, first-left, first-done, first-clear, first-split}
@@ -30,10 +30,10 @@ use Rattle.names.proofs.Same.{both-true}
 use Rattle.ntwrite.specs.Written.{marked, termBytes, partBytes, lineBytes}
 use Rattle.nttext.specs.Texts.{textOfTerm, sortOfTerm, isLegalText}
 use Rattle.nttext.proofs.Canonical.{text-append}
-use Rattle.nttext.proofs.LegalTexts.{legal-read}
+use Rattle.nttext.proofs.LegalTexts.{legal-read, sort-few}
 use Rattle.ntread.specs.Reading.{LineAt, lineAt, linesFrom}
 use Rattle.ntriples.specs.Writing.{hasText, isUnwritable, rowsWritable, fileBytes, writeChecks}
-use Rattle.ntriples.specs.Shown.{Meant, meantOf, meantTerm, tripleOf, tripleSaid, canonicalTerm, canonicalLine, LinesMean, ended, Canonical, T3}
+use Rattle.ntriples.specs.Shown.{meantOf, meantTerm, tripleOf, tripleSaid, canonicalTerm, canonicalLine, LinesMean, ended, T3}
 use Rattle.ntriples.proofs.Eols.{NoEol, no-eol-append, object-text, marked-no-eol}
 use Rattle.ntriples.proofs.Lined.{line-first}
 
@@ -248,10 +248,11 @@ row-worded es kind r legal e =
     let b = both-true (hasText es (r .s)) (hasText es (r .p) && hasText es (r .o)) (not-false _ (a .1)) in
     let c = both-true (hasText es (r .p)) (hasText es (r .o)) (b .1) in
     let zero-sort : sortOf (r .p) ≡ 0 = eqb-true (sortOf (r .p)) 0 (legal .predicate) in
-    let s-low : sortOf (r .s) ≤ 2 = leb-true (sortOf (r .s)) 2 (legal .subject) in
+    let heard = legal-heard (sortOf (r .s)) (textOf es (r .s)) (b .0) in
+    let s-low : sortOf (r .s) ≤ 2 = omega (arith, heard .sort-is, sort-few (heard .term)) in
     let no = eqb-false (sortOf (r .s)) 2 (a .0) in
     record {
-      s = legal-heard (sortOf (r .s)) (textOf es (r .s)) (b .0);
+      s = heard;
       p = legal-heard (sortOf (r .p)) (textOf es (r .p)) (c .0);
       o = legal-heard (sortOf (r .o)) (textOf es (r .o)) (c .1);
       subject = omega (arith, s-low, no);

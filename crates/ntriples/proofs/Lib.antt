@@ -3,6 +3,7 @@ pub mod Fives
 pub mod Rows
 pub mod Writes
 -- What is shown of writing.
+pub mod Values
 pub mod Eols
 pub mod Lined
 pub mod Canonical

@@ -10,6 +10,7 @@ use borrow.Author.Tests.{leb-true, le-leb, lt-leb, ltb-true, ltb-false, eq-eqb}
 use Rattle.ground.specs.Lists.{each}
 use Rattle.ground.proofs.Each.{each-append, each-one}
 use Rattle.term.specs.Term.{sortOf}
+use Rattle.term.proofs.Sorts.{sort-legal}
 use Rattle.term.specs.Refusal.{Check, verdict, done, first}
 use Rattle.term.specs.declared.refusal.Verdict.{Verdict}
 use Rattle.term.proofs.Firsts.{first-holds, first-passes}
@@ -172,9 +173,9 @@ module _ (kind a : ℕ) (room : Room) (small : room .entries ≤ 512) (legal : i
             let j = known-means (kept .made) few (sortOfTerm p) (textOfTerm p) y sy .0 in
             let k = known-means (kept .made) few (sortOfTerm o) (textOfTerm o) z sz .0 in
             record {
-              subject = le-leb (sortOf x) 2 (omega (arith, i, sort-few s));
+              subject = sort-legal x (omega (arith, i, sort-few s));
               predicate = eq-eqb (sortOf y) 0 (j ∙ say .predicate);
-              object = le-leb (sortOf z) 2 (omega (arith, k, sort-few o));
+              object = sort-legal z (omega (arith, k, sort-few o));
               annotation = legal;
             }
 

@@ -9,6 +9,7 @@ pub mod Lanewise
 pub mod Judged
 pub mod Outcomes
 pub mod StepLimit
+pub mod ValuesHold
 pub mod AtMost
 pub mod TargetsLeadOn
 pub mod ZeroIsDone

@@ -4,4 +4,5 @@ pub mod LegalSteps
 pub mod Records
 pub mod Compiling
 pub mod StepLimit
+pub mod Values
 pub mod Inner

@@ -1,10 +1,10 @@
--- The bench examples P1 to P10 hold for the definitions: the rules that draw the new rows are named, the rest computes. Assumes nothing.
+-- The bench examples P1 to P10, and those beside them, hold for the definitions: the rules that draw the new rows are named, the rest computes. Assumes nothing.
 use mathlib.Core.Path.{refl}
 use mathlib.Core.List.{List, [], _∷_}
 use Rattle.ground.specs.Lists.{Every}
 use Rattle.table.proofs.ExamplesHold.{examples-hold as table-examples-hold}
 use Rattle.rhodf.specs.Rules.{r2b, r3a, r3b, r4b, r5a, r5b}
-use Rattle.rhodf.specs.Examples.{P1, P3, P4, P5, P6, P7, P8, P9, P10, RangeBeyondBlank, ThreeClasses, examples}
+use Rattle.rhodf.specs.Examples.{P1, P3, P4, P5, P6, P7, P8, P9, P10, RangeBeyondBlank, ThreeClasses, RangeOfValue, ThroughValue, examples}
 use Rattle.rhodf.proofs.DrawnClosure.{Conclusion, by, isClosedBy, closure-by}
 
 p1 : P1
@@ -57,6 +57,14 @@ three-classes : ThreeClasses
 unfolding isClosedBy
 three-classes = closure-by (by (r3a 5 6 7) ∷ []) refl refl
 
+range-of-value : RangeOfValue
+unfolding isClosedBy
+range-of-value = closure-by (by (r4b 20 12 10 49652) ∷ []) refl refl
+
+through-value : ThroughValue
+unfolding isClosedBy
+through-value = closure-by (by (r5a 49152 12 20 10 30) ∷ []) refl refl
+
 pub examples-hold : Every examples
 examples-hold =
-    (p1, (table-examples-hold .0, (p3, (p4, (p5, (p6, (p7, (p8, (p9, (p10, (range-beyond-blank, (three-classes, tt))))))))))))
+    (p1, (table-examples-hold .0, (p3, (p4, (p5, (p6, (p7, (p8, (p9, (p10, (range-beyond-blank, (three-classes, (range-of-value, (through-value, tt))))))))))))))

@@ -1,7 +1,7 @@
--- The document's bench examples P1 to P10, each a statement on a table and its closure, and two of our own.
+-- The document's bench examples P1 to P10, each a statement on a table and its closure, two of our own, and two of measured values.
 use mathlib.Core.List.{List, [], _∷_}
 use Prim.Native.Nat.{ℕ}
-use Rattle.term.specs.Term.{sp, sc, type, dom, range}
+use Rattle.term.specs.Term.{sp, sc, type, dom, range, milliamps}
 use Rattle.annotation.specs.Kinds.{algebra}
 use Rattle.table.specs.Rows.{row}
 use Rattle.table.specs.Examples.{P2}
@@ -98,6 +98,20 @@ ThreeClasses =
     (row 5 sc 6 600 ∷ row 6 sc 7 400 ∷ [])
     (row 5 sc 6 600 ∷ row 5 sc 7 400 ∷ row 6 sc 7 400 ∷ [])
 
+-- C-17, example 6: "(20 range 12):900, (10 20 49652):800 closes with (49652 type 12):800"
+abbrev pub RangeOfValue : Type 0
+RangeOfValue =
+    ClosureOf 3 Rule
+    (row 10 20 (milliamps 500) 800 ∷ row 20 range 12 900 ∷ [])
+    (row 10 20 (milliamps 500) 800 ∷ row 20 range 12 900 ∷ row (milliamps 500) type 12 800 ∷ [])
+
+-- C-17, example 7: "(20 sp 49152):1000, (49152 dom 12):900, (10 20 30):800: one new row, (10 type 12):800 (P7 through a value)"
+abbrev pub ThroughValue : Type 0
+ThroughValue =
+    ClosureOf 3 Rule
+    (row 10 20 30 800 ∷ row 20 sp (milliamps 0) 1000 ∷ row (milliamps 0) dom 12 900 ∷ [])
+    (row 10 type 12 800 ∷ row 10 20 30 800 ∷ row 20 sp (milliamps 0) 1000 ∷ row (milliamps 0) dom 12 900 ∷ [])
+
 -- P2 is the table's own
 abbrev pub examples : List (Type 0)
-examples = P1 ∷ P2 ∷ P3 ∷ P4 ∷ P5 ∷ P6 ∷ P7 ∷ P8 ∷ P9 ∷ P10 ∷ RangeBeyondBlank ∷ ThreeClasses ∷ []
+examples = P1 ∷ P2 ∷ P3 ∷ P4 ∷ P5 ∷ P6 ∷ P7 ∷ P8 ∷ P9 ∷ P10 ∷ RangeBeyondBlank ∷ ThreeClasses ∷ RangeOfValue ∷ ThroughValue ∷ []

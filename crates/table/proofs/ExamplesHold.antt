@@ -2,9 +2,11 @@
 use mathlib.Core.Path.{refl}
 use mathlib.Core.List.{[]}
 use Rattle.ground.specs.Lists.{Every}
-use Rattle.annotation.specs.Kinds.{algebra}
+use Rattle.term.specs.Refusal.{first}
+use Rattle.annotation.specs.Kinds.{isKind, algebra}
 use Rattle.table.specs.Rows.{addRow}
-use Rattle.table.specs.Examples.{P2, examples, GoesBetween, Joins, GoesFirst, GoesLast, GoesAlone, placings}
+use Rattle.table.specs.Checks.{rowsChecks}
+use Rattle.table.specs.Examples.{P2, examples, GoesBetween, Joins, GoesFirst, GoesLast, GoesAlone, placings, ValuesInRows}
 
 p2 : P2
 unfolding addRow algebra
@@ -35,3 +37,7 @@ goes-alone = refl
 
 pub placings-hold : Every placings
 placings-hold = (goes-between, (joins, (goes-first, (goes-last, (goes-alone, tt)))))
+
+pub values-in-rows : ValuesInRows
+unfolding first isKind rowsChecks
+values-in-rows = (refl, refl, refl)

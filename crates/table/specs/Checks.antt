@@ -11,7 +11,7 @@ use Rattle.term.specs.Term.{isLegalTerm, isName}
 use Rattle.annotation.specs.Kinds.{kindChecks, annotationChecks}
 use Rattle.table.specs.Rows.{Row, Lanes, mostRows, rowAt, keyAt}
 
--- "8, 9, 10: sort 3; predicate not a name; annotation illegal", by number: 8 for any of the three terms comes first
+-- "8, 9, 10: 65,535; predicate not a name; annotation illegal", by number: 8 for any of the three terms comes first
 abbrev pub tripleChecks : ℕ → Row → ℕ → List Check
 tripleChecks kind r place =
     refuse (not (isLegalTerm (r .s) && (isLegalTerm (r .p) && isLegalTerm (r .o)))) 8 place

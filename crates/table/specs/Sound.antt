@@ -8,7 +8,7 @@ use Rattle.term.specs.Term.{isLegalTerm, isName}
 use Rattle.annotation.specs.Kinds.{isKind, isLegal}
 use Rattle.table.specs.Rows.{Row, Lanes, mostRows, rowAt, key}
 
--- "Subject and object are of sorts 0 to 2 ..; a predicate is a name"; its annotation is legal
+-- "Only 65,535 stays illegal .. a predicate is still a name" (C-17); its annotation is legal
 pub record LegalRow (kind : ℕ) (r : Row) : Type 0 where
   pub subject : isLegalTerm (r .s) ≡ true
   pub predicate : isName (r .p) ≡ true

@@ -4,7 +4,7 @@ use trackvesper::check;
 
 // Lamp 10 is of class 11 in 2000 to 2002, and again in 2005 to 2007 (base year 2000): two runs, never one.
 // Class 11 lies within 13, and within 12: the rows stay in order.
-// Then what is refused: no room, a term of sort 3, a blank as predicate, bottom.
+// Then what is refused: no room, 65535 as a term, a blank as predicate, bottom.
 const SUBJ: [u16; 8] = [10, 10, 11, 11, 11, 65535, 10, 10];
 
 const PRED: [u16; 8] = [2, 2, 1, 1, 1, 2, 16384, 2];

@@ -5,26 +5,47 @@ use mathlib.Core.Bool.{Bool, true, false, not}
 use mathlib.Core.List.{List, [], _++_}
 use Prim.Native.Nat.{ℕ, _≤_, _<_, _*_, _+_}
 use native.Mathlib.Omega.{arith}
-use borrow.Author.Tests.{eqb-true, leb-true, le-leb, not-false}
+use borrow.Author.Tests.{eqb-true, ltb-true, lt-ltb, not-false}
 use Rattle.term.specs.Refusal.{Check, done, first}
 use Rattle.term.specs.declared.refusal.Verdict.{Verdict}
-use Rattle.term.specs.Term.{perSort, sortOf, numberOf, isName, isLegalTerm, unbound, termChecks, predicateChecks}
+use Rattle.term.specs.Term.{perSort, sortOf, numberOf, unbound, isLegalTerm, isName, milliamps, termChecks, predicateChecks}
 use Rattle.term.proofs.Firsts.{Numbered, AllAt, Alike, first-none, first-passes, first-split, number-split}
 
 -- a term is its sort and its number
 pub sort-and-number : (t : ℕ) → sortOf t * perSort + numberOf t ≡ t
 sort-and-number t = omega arith
 
--- "65,535 therefore marks 'unbound'": every legal term is below it
+-- "65,535 .. marks 'unbound'": every legal term is below it
 pub legal-below : (t : ℕ) → isLegalTerm t ≡ true → t < unbound
-legal-below t e = omega (arith, leb-true (sortOf t) 2 e)
+legal-below t e = omega (arith, ltb-true t _ e)
 
 pub legal-not-unbound : (t : ℕ) → isLegalTerm t ≡ true → t ≡ unbound → ⊥
 legal-not-unbound t e u = omega (arith, legal-below t e)
 
+-- "Only 65,535 stays illegal": of the 16-bit numbers
+pub other-legal : (t : ℕ) → t < 65536 → (t ≡ unbound → ⊥) → isLegalTerm t ≡ true
+other-legal t small other = lt-ltb t unbound (omega (arith, other))
+
+pub unbound-illegal : isLegalTerm unbound ≡ false
+unbound-illegal = refl
+
+-- what has a text is legal
+pub sort-legal : (t : ℕ) → sortOf t ≤ 2 → isLegalTerm t ≡ true
+sort-legal t h = lt-ltb t unbound (omega arith)
+
+-- "Sort 3 becomes legal: a value from 0 to 16,382": a legal term of sort 3 whose number it is, and no name; one more would be 65,535
+pub value-legal : (m : ℕ) → m ≤ 16382 → (isLegalTerm (milliamps m) ≡ true) × (sortOf (milliamps m) ≡ 3) × (numberOf (milliamps m) ≡ m)
+value-legal m h = (lt-ltb (milliamps m) unbound (omega arith), omega arith, omega arith)
+
+pub value-at-most : (t : ℕ) → isLegalTerm t ≡ true → sortOf t ≡ 3 → numberOf t ≤ 16382
+value-at-most t e three = omega (arith, legal-below t e)
+
+pub one-more-is-unbound : milliamps 16383 ≡ unbound
+one-more-is-unbound = refl
+
 -- a name is a legal term
 pub name-legal : (t : ℕ) → isName t ≡ true → isLegalTerm t ≡ true
-name-legal t e = le-leb (sortOf t) 2 (omega (arith, eqb-true (sortOf t) 0 e))
+name-legal t e = sort-legal t (omega (arith, eqb-true (sortOf t) 0 e))
 
 pub name-below : (t : ℕ) → isName t ≡ true → t < unbound
 name-below t e = legal-below t (name-legal t e)

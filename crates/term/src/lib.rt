@@ -1,5 +1,5 @@
 // A term is a 16-bit number: its top two bits are its sort, the others its number.
-// Refused here: a term of sort 3 (8) and, as a predicate, whatever is no name (9).
+// Refused here: 65,535, which marks "unbound" (8), and, as a predicate, whatever is no name (9).
 ghost use mathlib.Core.Path.{_≡_};
 ghost use Rattle.term.specs.Term.{sortOf, numberOf, termChecks, predicateChecks};
 ghost use Rattle.term.specs.Refusal.{first};
@@ -22,12 +22,14 @@ pub const RANGE: u16 = 4;
 // Marks a variable that has no term; no legal term equals it.
 pub const UNBOUND: u16 = 65535;
 
-// The legal sorts; 3 is none.
+// The sorts; a value, of sort 3, is measured in milliamps.
 pub const NAME: u16 = 0;
 
 pub const BLANK: u16 = 1;
 
 pub const LITERAL: u16 = 2;
+
+pub const VALUE: u16 = 3;
 
 // A term's number is its lower 14 bits.
 const NUMBER_BITS: u16 = 14;
@@ -54,20 +56,15 @@ pub fn number_of(term: u16) -> u16
 pub fn term_refusal(term: u16) -> u8
     ensures { λ r. ⌜ r ≡ first (termChecks term 0) .number ⌝ }
 {
-    if LITERAL < sort_of(term) {
-        ILLEGAL_TERM
-    } else {
-        0
-    }
+    if term < UNBOUND { 0 } else { ILLEGAL_TERM }
 }
 
 // The refusal of a term as predicate, 0 where it is a name.
 pub fn predicate_refusal(term: u16) -> u8
     ensures { λ r. ⌜ r ≡ first (predicateChecks term 0) .number ⌝ }
 {
-    let sort = sort_of(term);
-    if LITERAL < sort {
+    if UNBOUND <= term {
         return ILLEGAL_TERM;
     }
-    if sort == NAME { 0 } else { NOT_A_NAME }
+    if sort_of(term) == NAME { 0 } else { NOT_A_NAME }
 }

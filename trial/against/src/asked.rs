@@ -31,6 +31,15 @@ fn many_lamps() -> Vec<u8> {
     [head, (100..357).flat_map(lamp).collect()].concat()
 }
 
+/// Lamp 10 is of class 11, and has a text and 500 mA for a limit.
+fn limits() -> Vec<u8> {
+    let row = |pred: u16, obj: u16| {
+        let terms = [10, pred, obj].map(u16::to_be_bytes).concat();
+        [&[3, 0, 14][..], &terms, &7u64.to_be_bytes()].concat()
+    };
+    [&[1, 0, 4, 1, 1, 7, 208][..], &row(20, 49_652), &row(20, 32_768), &row(2, 11)].concat()
+}
+
 /// P1's table is, closed: (10 type 11):120, (10 type 12):96, (11 sc 12):2016.
 pub fn countings() -> Vec<(&'static str, Vec<u8>, String)> {
     let either = holder(EITHER, &[&lamp(0, 0), &triple(var(0), con(2), con(12), &ann(1, 0))]);
@@ -45,6 +54,7 @@ pub fn countings() -> Vec<(&'static str, Vec<u8>, String)> {
     let anything = triple(var(0), var(1), var(2), &ann(1, 0));
     let lamps = triple(var(0), con(2), con(11), &ann(0, 1));
     let first_256: String = (100..356).map(|lamp| line(&[lamp], &[])).collect();
+    let limit = triple(con(10), con(20), var(0), &ann(1, 0));
     let mut cut = input(&p1(), &[p11()]);
     cut.push(0);
     let short = [input(&p1(), &[p11()]), vec![0, 5, 16, 0]].concat();
@@ -70,6 +80,15 @@ pub fn countings() -> Vec<(&'static str, Vec<u8>, String)> {
             "the question of 48 steps (C-14): 16 TRIPLEs, 3 looks each",
             input(&p1(), &[longest()]),
             "asked 0 0 16 48\n".to_string() + &line(&[10], &[120]).repeat(16),
+        ),
+        (
+            "C-17: the limits of lamp 10, a text and 500 mA, and which is 500 mA",
+            input(&limits(), &[limit.clone(), only(&limit, &terms(0, var(0), con(49_652)))]),
+            "asked 0 0 2 3\n".to_string()
+                + &line(&[32_768], &[7])
+                + &line(&[49_652], &[7])
+                + "asked 0 0 1 3\n"
+                + &line(&[49_652], &[7]),
         ),
         ("an empty table", input(&p1()[..7], &[anything]), "asked 0 0 0 0\n".to_string()),
         (

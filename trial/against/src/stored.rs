@@ -25,8 +25,11 @@ pub fn addings() -> Vec<Adding> {
         // Room 0.
         (1, lanes(&[], 0), 0, (lamp, 1)),
         // The largest terms and annotation that are legal.
-        (2, lanes(&[], 1), 0, ((49_151, 16_383, 49_151), u64::MAX)),
-        // 8 before 9 before 10, wherever the term of sort 3 stands.
+        (2, lanes(&[], 1), 0, ((65_534, 16_383, 65_534), u64::MAX)),
+        // A value as predicate is 9, beside 65,535 it is 8 (C-17).
+        (3, lanes(&[], 1), 0, ((10, 49_152, 11), 800)),
+        (3, lanes(&[], 1), 0, ((10, 49_152, 65_535), 800)),
+        // 8 before 9 before 10, wherever 65,535 stands.
         (3, lanes(&[], 1), 0, ((10, 16_384, 65_535), 0)),
         (3, lanes(&[], 1), 0, ((10, 16_384, 11), 1001)),
         (4, lanes(&[], 1), 0, ((10, 2, 11), 1001)),
@@ -77,8 +80,8 @@ pub fn books() -> Vec<Book> {
         ("6: tag 2", behind(&[&one, &[2, 0, 0]]), 2, 6, 24),
         ("6: unknown tag with a wrong length", behind(&[&[255, 0, 1, 0]]), 2, 6, 7),
         ("7: length 13", behind(&[&one, &[3, 0, 13], &[0; 13]]), 2, 7, 24),
-        ("8: subject", behind(&[&field(49_152, 2, 11, 1)]), 2, 8, 7),
-        ("8: predicate of sort 3", behind(&[&field(10, 65_535, 11, 1)]), 2, 8, 7),
+        ("8: subject", behind(&[&field(65_535, 2, 11, 1)]), 2, 8, 7),
+        ("8: predicate", behind(&[&field(10, 65_535, 11, 1)]), 2, 8, 7),
         (
             "9 before the object's 8, in byte order",
             behind(&[&field(10, 16_384, 65_535, 1)]),
@@ -88,6 +91,17 @@ pub fn books() -> Vec<Book> {
         ),
         ("8: object, before the annotation", behind(&[&field(10, 2, 65_535, 0)]), 2, 8, 7),
         ("10: bottom", behind(&[&one, &field(10, 2, 12, 0)]), 2, 10, 24),
+        ("C-17: a limit of 500 mA", book(3, &[(10, 20, 49_652, 800)]), 8, 0, 0),
+        ("C-17: the ends of the values", book(3, &[(65_534, 20, 49_152, 800)]), 8, 0, 0),
+        (
+            "C-17: a value as predicate, before the object",
+            book(3, &[(10, 49_152, 65_535, 800)]),
+            8,
+            9,
+            7,
+        ),
+        ("C-17: 65,535 as predicate", book(3, &[(10, 65_535, 11, 800)]), 8, 8, 7),
+        ("C-17: 65,535 as object, not 10", book(3, &[(10, 20, 65_535, 0)]), 8, 8, 7),
         ("12: no room", behind(&[&one, &field(10, 2, 12, 1)]), 1, 12, 24),
         (
             "12 before a fault in a later field",
@@ -158,6 +172,16 @@ pub fn listings() -> Vec<Listing> {
             "P10",
             book(3, &[(20, 4, 12, top), (10, 20, 32_769, top)]),
             "closed 3 0 3\n10 20 32769 1000\n20 4 12 1000\n32769 2 12 1000\n",
+        ),
+        (
+            "C-17: the range of a value",
+            book(3, &[(20, 4, 12, 900), (10, 20, 49_652, 800)]),
+            "closed 3 0 3\n10 20 49652 800\n20 4 12 900\n49652 2 12 800\n",
+        ),
+        (
+            "C-17: P7 through a value",
+            book(3, &[(20, 0, 49_152, top), (49_152, 3, 12, 900), (10, 20, 30, 800)]),
+            "closed 3 0 4\n10 2 12 800\n10 20 30 800\n20 0 49152 1000\n49152 3 12 900\n",
         ),
         ("nothing", vec![], "refused 2 0\n"),
         ("40 bytes of P1", p1()[..40].to_vec(), "refused 1 24\n"),

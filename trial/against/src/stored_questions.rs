@@ -211,10 +211,12 @@ fn constants() -> Vec<Question> {
     let one = lamp(0, 0);
     let with = |s: u16, p: u16, o: u16, a: u64| triple(con(s), con(p), con(o), &ann(0, a));
     vec![
-        ("the last constants", 2, with(49_151, 16_383, 49_151, u64::MAX), 0, 0),
-        ("8: subject", 1, with(49_152, 2, 11, 1), 8, 0),
-        ("8: predicate of sort 3", 1, with(10, 65_535, 11, 1), 8, 0),
-        ("8: object, nested", 1, holder(EITHER, &[&one, &with(10, 2, 49_152, 1)]), 8, 24),
+        ("the last constants", 2, with(65_534, 16_383, 65_534, u64::MAX), 0, 0),
+        ("C-17: the first value", 2, with(49_152, 16_383, 49_152, u64::MAX), 0, 0),
+        ("8: subject", 1, with(65_535, 2, 11, 1), 8, 0),
+        ("8: predicate", 1, with(10, 65_535, 11, 1), 8, 0),
+        ("9: predicate a value (C-17)", 1, with(10, 49_152, 11, 1), 9, 0),
+        ("8: object, nested", 1, holder(EITHER, &[&one, &with(10, 2, 65_535, 1)]), 8, 24),
         ("9: predicate a blank", 1, with(10, 16_384, 11, 1), 9, 0),
         (
             "9: predicate a literal, nested",
@@ -230,7 +232,8 @@ fn constants() -> Vec<Question> {
         ("1001 in kind 1", 1, with(10, 2, 11, 1001), 0, 0),
         ("10: 1001 in kind 4, nested", 4, holder(BOTH, &[&with(10, 2, 11, 1001), &one]), 10, 3),
         ("8 before 10", 3, with(10, 2, 65_535, 0), 8, 0),
-        ("8: a test's constant", 1, only(&one, &terms(0, var(0), con(49_152))), 8, 24),
+        ("8: a test's constant", 1, only(&one, &terms(1, var(0), con(65_535))), 8, 24),
+        ("a value in a test (C-17)", 1, only(&one, &terms(1, var(0), con(49_652))), 0, 0),
         ("no 9 in a test", 1, only(&one, &terms(1, var(0), con(16_384))), 0, 0),
         ("10: a test's constant 0", 1, only(&one, &least(0, 0)), 10, 24),
         ("10: a test's 1001 in kind 3", 3, only(&one, &least(0, 1001)), 10, 24),

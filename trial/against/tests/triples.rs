@@ -238,3 +238,26 @@ fn known_differences_stand_as_listed() {
         assert!(peers::ours(&plain_file(&mut Random::new(seed))).is_some(), "seed {seed}");
     }
 }
+
+/// A measured value has no text, whatever the list says of its number: 39 at its row (C-17).
+#[test]
+fn a_value_is_39_at_its_row() {
+    let laid = |number: u16| Names {
+        terms: vec![5, 6, number],
+        ends: vec![3, 6, 9],
+        text: b"m:am:pm:v".to_vec(),
+    };
+    for value in [49_152, 49_652, 65_534] {
+        for (subj, obj) in [(5, value), (value, 5), (value, value)] {
+            let lanes =
+                Lanes { subj: vec![0, subj], pred: vec![6, 6], obj: vec![5, obj], ann: vec![1, 7] };
+            let (count, listed, out) = (2, 3, noise(60));
+            let writing = Writing { kind: 1, lanes, count, names: laid(value), listed, out };
+            write_one(&writing).unwrap();
+            let mut model = writing.out.clone();
+            let Writing { kind, lanes, names, .. } = &writing;
+            let wanted = write_triples(*kind, lanes, count, names, listed, &mut model);
+            assert_eq!((wanted.number, wanted.place), (39, 1));
+        }
+    }
+}

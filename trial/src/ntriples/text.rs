@@ -3,7 +3,8 @@
 use super::grammar;
 use crate::term;
 
-/// What a term is, by the top two bits of its number; sort 3 is none of these.
+/// What a term is, by the top two bits of its number; a measured value is none of these, and
+/// has no text.
 #[derive(Clone, Copy, Debug, PartialEq, Eq, PartialOrd, Ord)]
 pub enum Sort {
     Name,

@@ -27,6 +27,8 @@ const SUBJECTS: [u16; 14] =
     [0, 2, 4, 5, 6, 7, 8, 9, 16_383, 16_384, 16_385, 16_386, 32_766, 32_767];
 const PREDICATES: [u16; 10] = [0, 1, 2, 3, 4, 5, 6, 7, 8, 16_383];
 const LITERALS: [u16; 5] = [32_768, 32_769, 32_770, 40_000, 49_151];
+/// Measured values, which have no text whatever the list says.
+const VALUES: [u16; 3] = [49_152, 49_652, 65_534];
 
 /// Texts that are legal for no sort, or only for another than they are mostly put to.
 const ILLEGAL: [&[u8]; 28] = [
@@ -83,6 +85,8 @@ fn rows(random: &mut Random, kind: u8) -> Vec<Row> {
             1 => (last.0, new.1, last.2),
             2 => (last.0, last.1, new.2),
             _ if random.chance(30) => (random.pick(&LITERALS), new.1, new.2),
+            _ if random.chance(40) => (new.0, new.1, random.pick(&VALUES)),
+            _ if random.chance(60) => (random.pick(&VALUES), new.1, new.2),
             _ => new,
         };
         map.insert(last, annotation(random, kind));
@@ -139,7 +143,7 @@ fn entries_for(random: &mut Random, rows: &[Row]) -> Entries {
     numbers.sort_unstable();
     numbers.dedup();
     for _ in 0..random.below(4) {
-        numbers.push(random.pick(&[0, 2, 4, 5, 9, 10, 16_384, 20_000, 32_768, 49_152, 65_535]));
+        numbers.push(random.pick(&[0, 2, 4, 5, 9, 10, 16_384, 20_000, 32_768, 49_652, 65_535]));
     }
     let legal = if random.chance(5) { shared_text } else { legal_text };
     let mut entries = Entries::new();

@@ -56,22 +56,25 @@ impl Random {
     }
 }
 
-/// The small pool of legal terms: the five known names, more names, blanks, literals.
-pub const TERMS: [u16; 18] =
-    [0, 1, 2, 3, 4, 10, 11, 12, 13, 20, 21, 22, 16_383, 16_384, 16_385, 32_768, 32_769, 49_151];
+/// The small pool of legal terms: the five known names, more names, blanks, literals, values.
+pub const TERMS: [u16; 21] = [
+    0, 1, 2, 3, 4, 10, 11, 12, 13, 20, 21, 22, 16_383, 16_384, 16_385, 32_768, 32_769, 49_151,
+    49_152, 49_652, 65_534,
+];
 
 /// The names of the pool.
 pub const NAMES: [u16; 13] = [0, 1, 2, 3, 4, 10, 11, 12, 13, 20, 21, 22, 16_383];
 
 /// A pool so small that questions over it are mostly answered.
-pub const TIGHT_TERMS: [u16; 4] = [10, 11, 12, 16_384];
+pub const TIGHT_TERMS: [u16; 4] = [10, 11, 16_384, 49_652];
 pub const TIGHT_NAMES: [u16; 3] = [SC, TYPE, 20];
 
-/// Terms of sort 3.
-pub const BAD_TERMS: [u16; 4] = [49_152, 49_153, 60_000, 65_535];
+/// The term that is not legal.
+pub const BAD_TERMS: [u16; 1] = [65_535];
 
 /// Legal terms that are no names, so no predicates.
-pub const NO_NAMES: [u16; 6] = [16_384, 16_385, 32_767, 32_768, 32_769, 49_151];
+pub const NO_NAMES: [u16; 9] =
+    [16_384, 16_385, 32_767, 32_768, 32_769, 49_151, 49_152, 49_652, 65_534];
 
 pub fn legal_kind(random: &mut Random) -> u8 {
     random.pick(&[1, 2, 3, 4])
@@ -142,7 +145,7 @@ pub fn row(random: &mut Random, kind: u8) -> Row {
     (triple(random), annotation(random, kind))
 }
 
-/// A row with one to three faults in it: a sort 3, a predicate that is no name, an illegal
+/// A row with one to three faults in it: 65,535, a predicate that is no name, an illegal
 /// annotation.
 pub fn bad_row(random: &mut Random, kind: u8) -> Row {
     let ((mut subj, mut pred, mut obj), mut ann) = row(random, kind);
