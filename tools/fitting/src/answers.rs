@@ -47,12 +47,10 @@ impl Asking<'_> {
         }
         out.flush()?;
         let mut columns = Columns::default();
-        let mut shown = 0;
+        let (mut shown, mut strangers) = (0, self.strangers(question));
         let asked = self.run(question, &mut |asked| {
-            if shown == 0 && place_word(Refused::Question, asked.refusal).is_none() {
-                self.strangers(question)
-                    .iter()
-                    .try_for_each(|note| writeln!(out, "    Note: {note}"))?;
+            if place_word(Refused::Question, asked.refusal).is_none() {
+                strangers.drain(..).try_for_each(|note| writeln!(out, "    Note: {note}"))?;
             }
             let new = asked.answers[shown..].iter();
             let lines: Vec<Vec<String>> = new.map(|answer| self.words(question, answer)).collect();

@@ -10,34 +10,56 @@ pub struct Record {
 /// What may stand between two cells.
 const MARKS: [char; 3] = [',', ';', '\t'];
 
-/// Reads a table; the mark between its cells is the one that its first line has most of.
-pub fn read(text: &str) -> Result<Vec<Record>, (usize, String)> {
+/// A line with more cells is no line of a book's table.
+const MOST_CELLS: usize = 256;
+
+/// What is wrong with a table, and in which line.
+pub type Wrong = (usize, String);
+
+/// The lines of a table, one after another; the mark between its cells is the one that its first
+/// line has most of.
+pub fn read(text: &str) -> Reader<'_> {
     let first = text.lines().next().unwrap_or("");
     let count = |mark: &char| first.matches(*mark).count();
     let mark = MARKS.into_iter().rev().max_by_key(count).unwrap_or(',');
-    let mut reader = Reader { rest: text, line: 1, mark };
-    let mut records = Vec::new();
-    while !reader.rest.is_empty() {
-        let line = reader.line;
-        let cells = reader.record()?;
-        if cells.iter().any(|cell| !cell.is_empty()) {
-            records.push(Record { line, cells });
-        }
-    }
-    Ok(records)
+    Reader { rest: text, line: 1, mark }
 }
 
-struct Reader<'a> {
+/// A table that is being read.
+pub struct Reader<'a> {
     rest: &'a str,
     line: usize,
     mark: char,
 }
 
+impl Iterator for Reader<'_> {
+    type Item = Result<Record, Wrong>;
+
+    /// The next line that has something in its cells; a wrong one is the last.
+    fn next(&mut self) -> Option<Result<Record, Wrong>> {
+        while !self.rest.is_empty() {
+            let line = self.line;
+            match self.record() {
+                Ok(cells) if cells.iter().all(String::is_empty) => {}
+                Ok(cells) => return Some(Ok(Record { line, cells })),
+                Err(wrong) => {
+                    self.rest = "";
+                    return Some(Err(wrong));
+                }
+            }
+        }
+        None
+    }
+}
+
 impl Reader<'_> {
     /// The cells up to the end of the line, without the blanks around them.
-    fn record(&mut self) -> Result<Vec<String>, (usize, String)> {
+    fn record(&mut self) -> Result<Vec<String>, Wrong> {
         let mut cells = Vec::new();
         loop {
+            if cells.len() == MOST_CELLS {
+                return Err((self.line, format!("a line has at most {MOST_CELLS} cells")));
+            }
             cells.push(self.cell()?);
             let Some(next) = self.rest.chars().next() else {
                 return Ok(cells);
@@ -58,7 +80,7 @@ impl Reader<'_> {
         }
     }
 
-    fn cell(&mut self) -> Result<String, (usize, String)> {
+    fn cell(&mut self) -> Result<String, Wrong> {
         let mark = self.mark;
         let blank = |letter: char| letter == ' ' || letter == '\t' && mark != '\t';
         let rest = self.rest.trim_start_matches(blank);
@@ -73,7 +95,7 @@ impl Reader<'_> {
     }
 
     /// A cell whose opening quote was passed; in it a quote is written twice.
-    fn quoted(&mut self) -> Result<String, (usize, String)> {
+    fn quoted(&mut self) -> Result<String, Wrong> {
         let opened = self.line;
         let mut cell = String::new();
         loop {
@@ -127,7 +149,11 @@ mod tests {
     use super::*;
 
     fn cells(text: &str) -> Vec<(usize, Vec<String>)> {
-        read(text).unwrap().into_iter().map(|record| (record.line, record.cells)).collect()
+        read(text).map(|record| record.unwrap()).map(|record| (record.line, record.cells)).collect()
+    }
+
+    fn wrong(text: &str) -> Wrong {
+        read(text).find_map(Result::err).unwrap()
     }
 
     fn record(line: usize, cells: &[&str]) -> (usize, Vec<String>) {
@@ -152,8 +178,9 @@ mod tests {
             cells("a,\"say \"\"hi\"\"\nthere\",b\nc,d,e"),
             [record(1, &["a", "say \"hi\"\nthere", "b"]), record(3, &["c", "d", "e"])]
         );
-        assert_eq!(read("a,b\n\"open").unwrap_err().0, 2);
-        assert!(read("\"a\"b,c").unwrap_err().1.starts_with("something stands behind"));
+        assert_eq!(wrong("a,b\n\"open").0, 2);
+        assert!(wrong(&",".repeat(1000)).1.starts_with("a line has at most 256 cells"));
+        assert!(wrong("\"a\"b,c").1.starts_with("something stands behind"));
     }
 
     #[test]
@@ -161,7 +188,7 @@ mod tests {
         let rows = vec![vec!["\"van 31\"".to_string(), "a,b".to_string(), "電球".to_string()]];
         let text = written(&rows);
         assert!(text.starts_with('\u{FEFF}'));
-        assert_eq!(read(text.trim_start_matches('\u{FEFF}')).unwrap()[0].cells, rows[0]);
+        assert_eq!(cells(text.trim_start_matches('\u{FEFF}'))[0].1, rows[0]);
         assert_eq!(written(&[vec!["a".to_string(), "b".to_string()]]), "a,b\r\n");
     }
 

@@ -101,28 +101,29 @@ fn seen(letter: char) -> char {
 
 /// A spreadsheet's table as a text. An error is what to print.
 pub fn import_table(source: &Source, said: Option<Kind>) -> Result<String, String> {
-    let read = || -> Result<(Kind, Names, Vec<Row>), Faults> {
-        let text = encoding::decoded(&source.bytes).map_err(Faults::one)?;
-        let records =
-            csv::read(text).map_err(|(line, words)| Faults::one(Fault::new(line, words)))?;
-        let kind = head(records.first(), said).map_err(Faults::one)?;
-        let mut names = Names::default();
-        let mut rows = Vec::new();
-        let mut faults = Faults::default();
-        for record in &records[1..] {
-            match row(record, &mut names, kind) {
-                Ok(row) => rows.push(row),
-                Err(fault) => faults.add(fault),
-            }
-        }
-        if faults.count() > 0 {
-            Err(faults)
-        } else {
-            Ok((kind, names, rows))
-        }
-    };
-    let (kind, names, rows) = read().map_err(|faults| faults.written(&source.name))?;
+    let (kind, names, rows) =
+        read_table(&source.bytes, said).map_err(|faults| faults.written(&source.name))?;
     text_of(kind, &names, &rows)
+}
+
+/// A table's kind, names and rows.
+fn read_table(bytes: &[u8], said: Option<Kind>) -> Result<(Kind, Names, Vec<Row>), Faults> {
+    let at = |(line, words): csv::Wrong| Fault::new(line, words);
+    let mut records =
+        csv::read(encoding::decoded(bytes).map_err(Faults::one)?).map(|record| record.map_err(at));
+    let first = records.next().transpose().map_err(Faults::one)?;
+    let kind = head(first.as_ref(), said).map_err(Faults::one)?;
+    let (mut names, mut rows, mut faults) = (Names::default(), Vec::new(), Faults::default());
+    for record in records {
+        match record.and_then(|record| row(&record, &mut names, kind)) {
+            Ok(row) => rows.push(row),
+            Err(fault) => faults.add(fault),
+        }
+    }
+    if faults.count() > 0 {
+        return Err(faults);
+    }
+    Ok((kind, names, rows))
 }
 
 /// The kind that a table's first line says, or the caller.

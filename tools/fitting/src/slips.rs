@@ -71,8 +71,10 @@ fn glued(item: &str) -> Option<String> {
             return Some(format!("{item}: write {}-{}", year(from)?, year(to)?));
         }
     }
-    if let Some(number) = item.strip_suffix('.').and_then(year) {
-        return Some(format!("{item}: write {number}, without the full stop"));
+    if let Some(years) =
+        item.strip_suffix('.').filter(|years| years.split('-').all(|one| year(one).is_some()))
+    {
+        return Some(format!("{item}: write {years}, without the full stop"));
     }
     let (from, to) = item.split_once(['-', '–'])?;
     let from = year(from)?;
@@ -111,6 +113,7 @@ mod tests {
         assert_eq!(said(&["2001/2005"]), "2001/2005: write 2001-2005");
         assert_eq!(said(&["2001..2005"]), "2001..2005: write 2001-2005");
         assert_eq!(said(&["2000", "2005."]), "2005.: write 2005, without the full stop");
+        assert_eq!(said(&["2000-2005."]), "2000-2005.: write 2000-2005, without the full stop");
     }
 
     #[test]

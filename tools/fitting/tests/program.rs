@@ -207,17 +207,28 @@ fn a_large_wrong_file_takes_little_memory() {
         format!("kind sheets\n{many_rows}").into_bytes(),
         vec![b'"'; most],
     ];
-    let program = &programs()[0];
     for (at, text) in texts.iter().enumerate() {
-        let limited =
-            format!("ulimit -v 65536; exec '{}' check - 2>&1 | head -c 10000", program.display());
-        let output = fed(Command::new("bash").args(["-c", &limited]), text);
-        let said = String::from_utf8_lossy(&output.stdout);
-        assert!(
-            !said.contains("memory allocation") && !said.contains("panicked"),
-            "text {at}: {said}"
-        );
+        assert_little_memory(&format!("text {at}"), "check -", text);
     }
+    let list = "import - --from nt --kind sheets --when 3";
+    assert_little_memory("a list", list, &filled("", "<a> <b> <c> .\n"));
+    let many_terms: String =
+        (0..40_000).map(|number| format!("<{number}> <b> _:c{number} .\n")).collect();
+    assert_little_memory("a list of names", list, many_terms.as_bytes());
+    let table = "subject,relation,object,sheets\n";
+    assert_little_memory("a table", "import - --from csv", &filled(table, "a,b,c,3\n"));
+    assert_little_memory("a table of cells", "import - --from csv", &filled("", ","));
+    assert_little_memory("a table of lines", "import - --from csv", &filled(table, "a\n"));
+    assert_little_memory("a names list", "text /dev/null --names -", &filled("", "5 a\n"));
+}
+
+#[cfg(target_os = "linux")]
+fn assert_little_memory(name: &str, words: &str, input: &[u8]) {
+    let program = programs()[0].display().to_string();
+    let limited = format!("ulimit -v 65536; exec '{program}' {words} 2>&1 | head -c 10000");
+    let output = fed(Command::new("bash").args(["-c", &limited]), input);
+    let said = String::from_utf8_lossy(&output.stdout);
+    assert!(!said.contains("memory allocation") && !said.contains("panicked"), "{name}: {said}");
 }
 
 /// A question that would take long, stopped: the answers so far were printed, and no process is
