@@ -41,9 +41,9 @@ enum {
 /* Kinds of annotation. */
 enum {
     TRACKVESPER_YEARS = 1,
-    TRACKVESPER_SHEETS = 2,
     TRACKVESPER_DEGREE = 3,
-    TRACKVESPER_STRICT_DEGREE = 4
+    TRACKVESPER_STRICT_DEGREE = 4,
+    TRACKVESPER_SHEETS = 5 /* six sheets; bit k: the sheets whose numbers are the set bits of k are enough together */
 };
 
 /* Numbers given back by these calls. 0 is done; the README has the whole list, with the places. */
@@ -75,6 +75,7 @@ enum {
     TRACKVESPER_NO_LOOKS = 24,      /* the looks allowed are used up; the answers given stand */
     TRACKVESPER_NOT_NTRIPLES = 26,  /* a line is not N-Triples */
     TRACKVESPER_NAMES_FULL = 27,    /* a text that is new finds no entry or too few bytes */
+    TRACKVESPER_MISSES_LARGER = 28, /* sheets: a combination is enough and a larger one is not */
     TRACKVESPER_NO_TEXT = 39        /* a row's subject is a literal, or one of its terms has no text */
 };
 
@@ -82,7 +83,7 @@ enum {
  * The number is answered; *place and what else there is to answer are always written. docs/REFERENCE.md has the orders of refusal and
  * what is left behind, call by call. */
 
-/* Checks a table: 4, 11, 14, then row by row 8, 9, 10, 15. */
+/* Checks a table: 4, 11, 14, then row by row 8, 9, 10, 28, 15. */
 uint8_t trackvesper_check(uint8_t kind, const uint16_t *subj, size_t subj_length, const uint16_t *pred, size_t pred_length,
                           const uint16_t *obj, size_t obj_length, const uint64_t *ann, size_t ann_length, size_t count,
                           size_t *place);

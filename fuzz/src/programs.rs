@@ -44,7 +44,7 @@ impl Program {
 }
 
 /// What reading a book, and closing within 1,024 rows, may refuse.
-pub const REFUSALS: [u64; 12] = [1, 2, 3, 4, 5, 6, 7, 8, 9, 10, 12, 13];
+pub const REFUSALS: [u64; 13] = [1, 2, 3, 4, 5, 6, 7, 8, 9, 10, 12, 13, 28];
 
 /// `refused NUMBER PLACE`, with a place within the input.
 fn refusal(input: &[u8], line: &str) -> Result<(), Fault> {
@@ -68,10 +68,11 @@ fn closing_form(input: &[u8], output: &[u8]) -> Result<(), Fault> {
         return refusal(input, first);
     };
     let head = head?;
-    let &[kind @ 1..=4, base @ 0..=2100, count] = &head[..] else {
+    let &[kind @ 1..=5, base @ 0..=2100, count] = &head[..] else {
         return Err(format!("not a kind, a base year and a count: {first}"));
     };
     let kind = kind as u8;
+    must(annotation::kind_legal(kind), || format!("kind: {first}"))?;
     must(book::base_legal(kind, base as u16), || format!("base year: {first}"))?;
     must(count <= 1024 && count == rows.len() as u64, || format!("{} rows: {first}", rows.len()))?;
     let mut before = None;
@@ -95,7 +96,7 @@ fn row(line: &str) -> Result<table::Row, Fault> {
 }
 
 /// What compiling a question, and running it with 256 answer rows, may give.
-const ASKED: [u64; 12] = [0, 8, 9, 10, 12, 16, 17, 18, 19, 20, 21, 22];
+const ASKED: [u64; 13] = [0, 8, 9, 10, 12, 16, 17, 18, 19, 20, 21, 22, 28];
 
 /// `asked NUMBER PLACE COUNT LOOKS` with so many answers behind it, any number of times; then
 /// perhaps one refusal.

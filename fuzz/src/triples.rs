@@ -64,8 +64,8 @@ pub struct Calls {
 }
 
 /// What reading, and what writing, may refuse.
-const READ_REFUSALS: [u64; 7] = [4, 10, 11, 12, 13, 26, 27];
-const WRITE_REFUSALS: [u64; 9] = [4, 8, 9, 10, 11, 12, 14, 15, 39];
+const READ_REFUSALS: [u64; 8] = [4, 10, 11, 12, 13, 26, 27, 28];
+const WRITE_REFUSALS: [u64; 10] = [4, 8, 9, 10, 11, 12, 14, 15, 28, 39];
 
 /// More than is ever written of what was read: a line grows by at most four bytes.
 const WRITTEN: usize = book::LONGEST + 4 * (LONGEST + 1);

@@ -139,10 +139,11 @@ fn read_triple(kind: u8, tag: u8, value: &[u8]) -> Result<Row, u32> {
         Err(9)
     } else if !term::legal(obj) {
         Err(8)
-    } else if !annotation::legal(kind, ann) {
-        Err(10)
     } else {
-        Ok(((subj, pred, obj), ann))
+        match annotation::judge(kind, ann) {
+            0 => Ok(((subj, pred, obj), ann)),
+            number => Err(number),
+        }
     }
 }
 

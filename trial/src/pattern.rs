@@ -62,13 +62,12 @@ pub fn judge_term(slot: Slot, predicate: bool) -> u32 {
     }
 }
 
-/// 18 mark, 19 variable, 10 constant; 0 if legal.
+/// 18 mark, 19 variable, 10 and 28 constant; 0 if legal.
 pub fn judge_ann(kind: u8, slot: AnnSlot) -> u32 {
     match slot.mark {
         VARIABLE if slot.value > 7 => 19,
         VARIABLE => 0,
-        CONSTANT if !annotation::legal(kind, slot.value) => 10,
-        CONSTANT => 0,
+        CONSTANT => annotation::judge(kind, slot.value),
         _ => 18,
     }
 }

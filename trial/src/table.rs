@@ -100,21 +100,20 @@ pub fn fill(lanes: &mut Lanes, rows: &[Row]) {
     }
 }
 
-/// A row or an added triple by number: 8 for any of its terms, then 9, then 10; 0 if legal.
+/// A row or an added triple by number: 8 for any of its terms, then 9, then 10, then 28; 0 if
+/// legal.
 pub fn judge(kind: u8, row: Row) -> u32 {
     let ((subj, pred, obj), ann) = row;
     if ![subj, pred, obj].iter().all(|one| term::legal(*one)) {
         8
     } else if !term::name(pred) {
         9
-    } else if !annotation::legal(kind, ann) {
-        10
     } else {
-        0
+        annotation::judge(kind, ann)
     }
 }
 
-/// The table check: 4, 11, 14, then row by row 8, 9, 10, 15.
+/// The table check: 4, 11, 14, then row by row 8, 9, 10, 28, 15.
 pub fn check(kind: u8, lanes: &Lanes, count: usize) -> Verdict {
     if !annotation::kind_legal(kind) {
         return Verdict::new(4, 0);
@@ -146,7 +145,7 @@ pub struct Added {
     pub count: usize,
 }
 
-/// Adds a triple, or joins it to its equal: the table's refusals, then 8, 9, 10, then 12.
+/// Adds a triple, or joins it to its equal: the table's refusals, then 8, 9, 10, 28, then 12.
 pub fn add(kind: u8, lanes: &mut Lanes, count: usize, triple: Triple, ann: u64) -> Added {
     let refused = |verdict: Verdict| Added { number: verdict.number, place: verdict.place, count };
     let verdict = check(kind, lanes, count);

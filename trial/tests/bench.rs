@@ -59,7 +59,7 @@ fn p7_rule_5_by_way_of_a_blank() {
 
 #[test]
 fn p8_sp_as_a_property() {
-    for kind in 1..=4 {
+    for kind in [1, 3, 4, 5] {
         let top = annotation::top(kind);
         let rows = [row(0, SP, 40, top), row(20, SP, 21, top)];
         assert_eq!(drawn(kind, &rows), [row(0, 40, 40, top), row(20, 40, 21, top)]);
@@ -74,7 +74,7 @@ fn p9_a_ring_of_classes() {
 
 #[test]
 fn p10_a_literal_gets_a_type() {
-    for kind in 1..=4 {
+    for kind in [1, 3, 4, 5] {
         let top = annotation::top(kind);
         let rows = [row(20, RANGE, 12, top), row(10, 20, 32769, top)];
         assert_eq!(drawn(kind, &rows), [row(32769, TYPE, 12, top)]);

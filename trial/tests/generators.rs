@@ -59,8 +59,8 @@ fn tables_and_adding() {
         let new = rows.iter().take(added.count).find(|row| row.0 == triple);
         assert!(new.is_some_and(|row| trial::annotation::at_most(kind, ann, row.1)));
     }
-    assert_met(&checks, &[0, 4, 8, 9, 10, 11, 14, 15], 60);
-    assert_met(&adds, &[0, 4, 8, 9, 10, 11, 12, 14, 15], 60);
+    assert_met(&checks, &[0, 4, 8, 9, 10, 11, 14, 15, 28], 20);
+    assert_met(&adds, &[0, 4, 8, 9, 10, 11, 12, 14, 15, 28], 20);
 }
 
 #[test]
@@ -99,7 +99,7 @@ fn books_meet_every_number() {
             assert!(zeros[out.count..].iter().all(|row| *row == ((0, 0, 0), 0)));
         }
     }
-    assert_met(&met, &[0, 1, 2, 3, 4, 5, 6, 7, 8, 9, 10, 11, 12, 13], 12);
+    assert_met(&met, &[0, 1, 2, 3, 4, 5, 6, 7, 8, 9, 10, 11, 12, 13, 28], 12);
 }
 
 #[test]
@@ -126,7 +126,7 @@ fn questions_meet_every_number() {
             assert!(steps::check(kind, &records, out.steps).done());
         }
     }
-    assert_met(&met, &[0, 4, 8, 9, 10, 11, 16, 17, 18, 19, 20, 21, 22], 60);
+    assert_met(&met, &[0, 4, 8, 9, 10, 11, 16, 17, 18, 19, 20, 21, 22, 28], 50);
 }
 
 #[test]
@@ -163,8 +163,8 @@ fn step_lists_and_runs() {
         assert!(terms.iter().skip(16 * ran.answers).all(|term| *term == 7));
         assert!(anns.iter().skip(8 * ran.answers).all(|ann| *ann == 7));
     }
-    assert_met(&met, &[0, 4, 8, 9, 10, 11, 12, 14, 15, 23, 24], 20);
-    assert!(answered > 600, "{answered}");
+    assert_met(&met, &[0, 4, 8, 9, 10, 11, 12, 14, 15, 23, 24, 28], 5);
+    assert!(answered > 500, "{answered}");
 }
 
 #[test]
@@ -199,7 +199,7 @@ fn closings_meet_the_room_exactly_and_miss_it_by_one() {
 fn counters_deal_books_and_questions() {
     let mut random = Random::new(49);
     let mut lines = BTreeMap::new();
-    for _ in 0..600 {
+    for _ in 0..1_500 {
         let text = programs::counter_program(&counters::input(&mut random));
         for line in text.lines().filter(|line| line.starts_with(|first| first > '9')) {
             let words: Vec<&str> = line.split(' ').collect();
@@ -233,7 +233,7 @@ fn files_meet_every_number() {
             *longest.entry(100_000 + usize::from(end)).or_insert(0) += 1;
         }
     }
-    assert_met(&met, &[0, 4, 10, 11, 12, 13, 26, 27], 60);
+    assert_met(&met, &[0, 4, 10, 11, 12, 13, 26, 27, 28], 60);
     assert!(exact > 400 && full > 5, "{exact} {full}");
     // Files, lists and texts at their limits.
     for length in [65_534, 65_535, 65_536, 65_537, 132_767, 132_768] {
@@ -282,7 +282,7 @@ fn writings_meet_every_number() {
         first += usize::from(done.number == 39 && done.place > 0);
         assert_eq!(bytes[done.length..], out[done.length..]);
     }
-    assert_met(&met, &[0, 4, 8, 9, 10, 11, 12, 14, 15, 39], 100);
+    assert_met(&met, &[0, 4, 8, 9, 10, 11, 12, 14, 15, 28, 39], 90);
     assert_met(&of_list, &[0, 11, 12, 14, 39], 400);
     assert!(exact > 2000 && short > 1000 && first > 1000, "{exact} {short} {first}");
 }

@@ -28,9 +28,9 @@ fn number(bytes: &[u8]) -> (u32, u64) {
     (out.number, out.place)
 }
 
-/// A head of kind 2, then these fields.
+/// A head of kind 3, then these fields.
 fn with_head(fields: &[&[u8]]) -> Vec<u8> {
-    [&book::head(1, 2, 0)[..], &fields.concat()].concat()
+    [&book::head(1, 3, 0)[..], &fields.concat()].concat()
 }
 
 fn good() -> Vec<u8> {
@@ -85,7 +85,7 @@ fn tags_and_lengths_after_the_head() {
 fn head_content_in_byte_order() {
     assert_eq!(number(&book::head(0, 0, 7)), (3, 0));
     assert_eq!(number(&book::head(2, 9, 7)), (3, 0));
-    for kind in [0, 5, 255] {
+    for kind in [0, 2, 6, 255] {
         assert_eq!(number(&book::head(1, kind, 7)), (4, 0));
     }
     for (kind, base, expected) in [
@@ -95,8 +95,8 @@ fn head_content_in_byte_order() {
         (1, 2100, 0),
         (1, 2101, 5),
         (1, 65_535, 5),
-        (2, 0, 0),
-        (2, 1, 5),
+        (5, 0, 0),
+        (5, 1, 5),
         (3, 2000, 5),
         (3, 0, 0),
         (4, 256, 5),
@@ -148,7 +148,7 @@ fn twelve_is_last_within_its_field() {
 #[test]
 fn lengths_of_books_and_lanes() {
     // 65,535 bytes are no 13: here the last field is cut.
-    let mut bytes = book::bytes_of(2, 0, &vec![row(5, 5, 5, 1); 3854]);
+    let mut bytes = book::bytes_of(3, 0, &vec![row(5, 5, 5, 1); 3854]);
     assert_eq!(bytes.len(), 65_525);
     assert_eq!(number(&bytes), (0, 0));
     bytes.resize(65_535, 3);

@@ -854,16 +854,18 @@ fn l6_the_five_in_any_place() {
 #[test]
 fn r1_order_of_refusals() {
     let long = vec![b'x'; 65_536];
-    let cases: [(u8, u64, &[u8], usize, u32); 10] = [
+    let cases: [(u8, u64, &[u8], usize, u32); 12] = [
         (0, 0, &long, 1025, 4),
-        (5, 7, &long, 1025, 4),
+        (2, 7, &long, 1025, 4),
+        (5, 2, &long, 9, 13),
+        (5, 2, b"x", 9, 28),
         (1, 0, &long, 1025, 11),
         (1, 0, &long, 9, 13),
         (1, 0, b"x", 9, 10),
         (3, 1001, b"x", 9, 10),
         (4, 0, b"", 9, 10),
         (3, 1000, b"x", 9, 26),
-        (2, 1, b"x", 0, 26),
+        (5, 1 << 63, b"x", 0, 26),
         (4, 1, b"", 0, 0),
     ];
     for (kind, ann, file, room, number) in cases {

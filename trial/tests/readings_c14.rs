@@ -48,7 +48,7 @@ fn the_question_that_needs_48() {
     let rungs = (0..15).flat_map(|k| [Step::fork(3 * k + 3), seek, Step::go(46)]);
     let expected: Vec<Step> =
         rungs.chain([seek, Step::test_terms(0, v(0), v(0)), Step::give()]).collect();
-    for kind in 1..=4 {
+    for kind in [1, 3, 4, 5] {
         let mut records = vec![Step::default(); 50];
         let out = question::compile(kind, &bytes, &mut records);
         assert_eq!((out.number, out.place, out.steps), (0, 0, 48));

@@ -328,7 +328,7 @@ fn compiling_goes_4_11_then_the_question() {
         assert!(row[out.steps..].iter().all(|step| *step == junk));
         (out.number, out.place, out.steps)
     };
-    for kind in [0, 5, 255] {
+    for kind in [0, 2, 6, 255] {
         assert_eq!(compile(kind, &[], 0), (4, 0, 0));
     }
     assert_eq!(compile(1, &[9], 0), (11, 0, 0));

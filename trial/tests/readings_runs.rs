@@ -137,7 +137,8 @@ fn twenty_three_targets() {
 fn twenty_three_slots_for_the_kind() {
     let legal = |kind: u8, step: Step| steps::check(kind, &[step, Step::give()], 2).done();
     let ann = |kind: u8, ann: AnnSlot| legal(kind, seek(v(0), v(1), v(2), ann));
-    assert!(ann(1, ca(u64::MAX)) && !ann(3, ca(1001)) && ann(3, ca(1000)) && !ann(2, ca(0)));
+    assert!(ann(1, ca(u64::MAX)) && !ann(3, ca(1001)) && ann(3, ca(1000)) && !ann(5, ca(0)));
+    assert!(!ann(5, ca(2)) && ann(5, ca(trial::random::with(1))));
     assert!(ann(1, va(7)) && !ann(1, va(8)) && !ann(1, va(1 << 32)));
     assert!(!ann(1, AnnSlot { mark: 2, value: 0 }));
     let slot = |mark, value| Slot { mark, value };

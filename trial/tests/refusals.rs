@@ -30,7 +30,7 @@ fn numbers_1_to_7_of_books() {
     assert_eq!(read(&[], 9), (2, 0));
     assert_eq!(read(&after_a_row(&P1[..7]), 9), (2, 24));
     assert_eq!(read(&book::head(2, 1, 2000), 9), (3, 0));
-    assert_eq!(read(&book::head(1, 5, 0), 9), (4, 0));
+    assert_eq!(read(&book::head(1, 2, 0), 9), (4, 0));
     assert_eq!(read(&book::head(1, 1, 2101), 9), (5, 0));
     assert_eq!(read(&after_a_row(&[2, 0, 0]), 9), (6, 24));
     assert_eq!(read(&after_a_row(&[3, 0, 0]), 9), (7, 24));

@@ -9,7 +9,7 @@ use trial::steps::{self, Step};
 use trial::table::{self, Lanes};
 use trial::{annotation, book, closing, export, programs, question};
 
-const KINDS: [u8; 7] = [0, 1, 2, 3, 4, 5, 255];
+const KINDS: [u8; 8] = [0, 1, 2, 3, 4, 5, 6, 255];
 const ANNS: [u64; 6] = [0, 1, 1000, 1001, 1 << 63, u64::MAX];
 
 #[test]

@@ -106,8 +106,9 @@ fn expected(case: &Reading, lines: &[(usize, Line)]) -> (u32, usize) {
     if case.file.len() > 65_535 {
         return (13, 0);
     }
-    if !annotation::legal(case.kind, case.ann) {
-        return (10, 0);
+    let number = annotation::judge(case.kind, case.ann);
+    if number != 0 {
+        return (number, 0);
     }
     let mut triples = Vec::new();
     for (place, line) in lines {

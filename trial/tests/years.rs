@@ -1,5 +1,6 @@
 //! Year by year (C-20): a bit of a closure is what the plain rules draw from the lines of that bit
-//! alone, and two tables whose lines of a bit agree have closures that agree there.
+//! alone, and two tables whose lines of a bit agree have closures that agree there. In kind 1 a bit
+//! is a year, in kind 5 a combination of sheets.
 
 mod common;
 use common::*;
@@ -21,8 +22,8 @@ fn plain(lines: &BTreeSet<Triple>) -> BTreeSet<Triple> {
 }
 
 /// Only what the closure comes to in `most` rows; a chain of 46 would take long at 64 bits each.
-fn closed_within(rows: &[Row], most: usize) -> Option<Vec<Row>> {
-    closing::closure(1, rows, most)
+fn closed_within(kind: u8, rows: &[Row], most: usize) -> Option<Vec<Row>> {
+    closing::closure(kind, rows, most)
 }
 
 /// Random tables, all 64 bits of each.
@@ -31,8 +32,9 @@ fn each_bit_of_a_closure_is_drawn_from_the_lines_of_that_bit() {
     let mut random = Random::new(20);
     let (mut tables, mut drawn) = (0, 0);
     while tables < 10_000 {
-        let rows = closings::rows(&mut random, 1);
-        let Some(closed) = closed_within(&rows, 150) else {
+        let kind = random.pick(&[1, 5]);
+        let rows = closings::rows(&mut random, kind);
+        let Some(closed) = closed_within(kind, &rows, 150) else {
             continue;
         };
         tables += 1;
@@ -65,7 +67,8 @@ fn tables_that_agree_on_a_year_close_to_tables_that_agree_on_it() {
         let rows = closings::rows(&mut random, 1);
         let (bit, other_bit) = (random.below(9), random.below(64));
         let others = alike_at(&mut random, &rows, bit, other_bit);
-        let (Some(one), Some(other)) = (closed_within(&rows, 300), closed_within(&others, 300))
+        let (Some(one), Some(other)) =
+            (closed_within(1, &rows, 300), closed_within(1, &others, 300))
         else {
             continue;
         };
@@ -88,13 +91,13 @@ fn a_line_of_other_years_leaves_a_year_as_it_is() {
         let rows = closings::rows(&mut random, 1);
         let bit = random.below(9);
         let (triple, ann) = random::row(&mut random, 1);
-        let Some(before) = closed_within(&rows, 300) else {
+        let Some(before) = closed_within(1, &rows, 300) else {
             continue;
         };
         let mut map = rows.iter().copied().collect();
         table::join_in(1, &mut map, (triple, ann & !(1 << bit)));
         let more: Vec<Row> = map.into_iter().filter(|row| row.1 != 0).collect();
-        if let Some(after) = closed_within(&more, 300) {
+        if let Some(after) = closed_within(1, &more, 300) {
             assert_eq!(lines(&before, bit), lines(&after, bit));
         }
     }
@@ -117,6 +120,15 @@ fn another_table_agrees_with_p1_in_2005_and_differs_in_2006() {
     assert_eq!(lines(&P1_CLOSED, 5), there);
     assert_eq!(lines(&other, 5), there);
     assert_ne!(lines(&P1_CLOSED, 6), lines(&other, 6));
+}
+
+/// Two combinations, of which only the larger has both lines.
+#[test]
+fn two_sheets_together_and_one_alone() {
+    let rows = [row(10, TYPE, 11, random::with(1)), row(11, SC, 12, random::with(2))];
+    let closed = closed(5, &rows);
+    assert!(lines(&closed, 3).contains(&(10, TYPE, 12)));
+    assert_eq!(lines(&closed, 1), BTreeSet::from([(10, TYPE, 11)]));
 }
 
 /// One step is not enough.

@@ -1,4 +1,4 @@
--- "At most" is "subset" for kinds 1 and 2, and "<=" for kinds 3 and 4. Assumes nothing.
+-- "At most" is "subset" for kinds 1 and 5, and "<=" for kinds 3 and 4. Assumes nothing.
 use mathlib.Core.Logic.{_↔_}
 use Prim.Native.Nat.{ℕ, _≤_}
 use native.Mathlib.Omega.{arith}
@@ -11,7 +11,7 @@ pub years-at-most : (a b : ℕ) → AtMost (algebra 1) a b ↔ Subset a b
 unfolding algebra
 years-at-most a b = (or-subset a b, subset-or a b)
 
-pub sheets-at-most : (a b : ℕ) → AtMost (algebra 2) a b ↔ Subset a b
+pub sheets-at-most : (a b : ℕ) → AtMost (algebra 5) a b ↔ Subset a b
 unfolding algebra
 sheets-at-most a b = (or-subset a b, subset-or a b)
 

@@ -12,14 +12,14 @@ module _ (kind : ℕ) where
   is-years h = rw (eq-eqb kind 1 h) refl
 
   module _ (n1 : kind ≡ 1 → ⊥) where
-    pub is-sheets : kind ≡ 2 → algebra kind ≡ sheets
+    pub is-sheets : kind ≡ 5 → algebra kind ≡ sheets
     unfolding algebra
-    is-sheets h = rw (ne-eqb kind 1 n1, eq-eqb kind 2 h) refl
+    is-sheets h = rw (ne-eqb kind 1 n1, eq-eqb kind 5 h) refl
 
-    module _ (n2 : kind ≡ 2 → ⊥) where
+    module _ (n5 : kind ≡ 5 → ⊥) where
       pub is-scale : algebra kind ≡ cond (eqb kind 3) degree strict
       unfolding algebra
-      is-scale = rw (ne-eqb kind 1 n1, ne-eqb kind 2 n2) refl
+      is-scale = rw (ne-eqb kind 1 n1, ne-eqb kind 5 n5) refl
 
       pub is-degree : kind ≡ 3 → algebra kind ≡ degree
       is-degree h = rw (is-scale, eq-eqb kind 3 h) refl
@@ -31,6 +31,6 @@ scale-join : (d : Bool) (a b : ℕ) → max a b ≡ cond d degree strict .join a
 scale-join true a b = refl
 scale-join false a b = refl
 
-module _ (kind : ℕ) (n1 : kind ≡ 1 → ⊥) (n2 : kind ≡ 2 → ⊥) where
+module _ (kind : ℕ) (n1 : kind ≡ 1 → ⊥) (n5 : kind ≡ 5 → ⊥) where
   pub joins-by-max : (a b : ℕ) → max a b ≡ algebra kind .join a b
-  joins-by-max a b = rw (is-scale kind n1 n2) (scale-join (eqb kind 3) a b)
+  joins-by-max a b = rw (is-scale kind n1 n5) (scale-join (eqb kind 3) a b)

@@ -1,5 +1,5 @@
 // Fitting books: read into a table, and written from one.
-// Refused here: a cut field (1), the head (2 to 5), other fields (6, 7), their content (8, 9, 10), lanes (11), room (12), length (13).
+// Refused here: a cut field (1), the head (2 to 5), other fields (6, 7), their content (8, 9, 10, 28), lanes (11), room (12), length (13).
 ghost use mathlib.Core.Path.{_≡_};
 ghost use lib.ListN.{length};
 ghost use Rattle.table.specs.Lent.{before, after, lent};

@@ -13,7 +13,7 @@ use Rattle.rhodf.specs.Plain.{Reads, ExactlyDrawn, Agree, hasBit, inYear, YearO
 use Rattle.rhodf.proofs.Growing.{rows-valued}
 use Rattle.rhodf.proofs.RulesDecided.{rules-keep-legal, rules-decided}
 use Rattle.rhodf.proofs.YearByYear.{exactly-drawn, closures-agree}
-use Rattle.rhodf.proofs.Readings.{ReadsBits, years-read}
+use Rattle.rhodf.proofs.Readings.{ReadsBits, years-read, sheets-read}
 use Rattle.closing.specs.Closing.{Closing}
 use Rattle.closing.proofs.CloseCloses.{was-sound, close-closes}
 
@@ -61,21 +61,36 @@ module _ {kind : ℕ} {l : Lanes} {n : ℕ} {m : Lanes} {count : ℕ} (d : Done 
       (left-closed d)
       (left-closed d′)
 
--- kind 1: bit k of the one table and bit k′ of the other
-module _ {l : Lanes} {n : ℕ} {m : Lanes} {count : ℕ} (d : Done 1 l n m count) {l′ : Lanes} {n′ : ℕ} {m′ : Lanes} {count′ : ℕ} (d′ : Done 1 l′ n′ m′ count′) where
-  pub closed-bits-agree : (k k′ : ℕ) → k < 64 → k′ < 64
+-- a kind of which bits can be read: bit k of the one table and bit k′ of the other
+module _ {kind : ℕ} (reads : ReadsBits kind) where
+  pub bit-exactly-drawn : {l : Lanes} {n : ℕ} {m : Lanes} {count : ℕ} → Done kind l n m count → (k : ℕ) → k < 64
+      → ExactlyDrawn Rule (hasBit k) (rowsOf l n) (rowsOf m count)
+  bit-exactly-drawn d k h = close-exactly-drawn d (hasBit k) (reads k h)
+
+  pub closed-bits-agree : {l : Lanes} {n : ℕ} {m : Lanes} {count : ℕ} → Done kind l n m count
+      → {l′ : Lanes} {n′ : ℕ} {m′ : Lanes} {count′ : ℕ} → Done kind l′ n′ m′ count′ → (k k′ : ℕ) → k < 64 → k′ < 64
       → Agree (hasBit k) (hasBit k′) (rowsOf l n) (rowsOf l′ n′) → Agree (hasBit k) (hasBit k′) (rowsOf m count) (rowsOf m′ count′)
-  closed-bits-agree k k′ h h′ = closings-agree d d′ (hasBit k) (hasBit k′) (years-read k h) (years-read k′ h′)
+  closed-bits-agree d d′ k k′ h h′ = closings-agree d d′ (hasBit k) (hasBit k′) (reads k h) (reads k′ h′)
 
-  -- one year, of two books of one base year or of two
-  pub closed-years-agree : (base base′ year : ℕ) → YearOf base year → YearOf base′ year
-      → Agree (inYear base year) (inYear base′ year) (rowsOf l n) (rowsOf l′ n′) → Agree (inYear base year) (inYear base′ year) (rowsOf m count) (rowsOf m′ count′)
-  closed-years-agree base base′ year y y′ =
-      closed-bits-agree (year - base) (year - base′)
-      (omega (arith, y .from-base, y .in-64))
-      (omega (arith, y′ .from-base, y′ .in-64))
-
--- "a year is in a closed row exactly when .."
+-- kind 1: a year, of two books of one base year or of two
 pub year-exactly-drawn : {l : Lanes} {n : ℕ} {m : Lanes} {count : ℕ} → Done 1 l n m count → (k : ℕ) → k < 64
     → ExactlyDrawn Rule (hasBit k) (rowsOf l n) (rowsOf m count)
-year-exactly-drawn d k h = close-exactly-drawn d (hasBit k) (years-read k h)
+year-exactly-drawn = bit-exactly-drawn years-read
+
+pub closed-years-agree : {l : Lanes} {n : ℕ} {m : Lanes} {count : ℕ} → Done 1 l n m count
+    → {l′ : Lanes} {n′ : ℕ} {m′ : Lanes} {count′ : ℕ} → Done 1 l′ n′ m′ count′ → (base base′ year : ℕ) → YearOf base year → YearOf base′ year
+    → Agree (inYear base year) (inYear base′ year) (rowsOf l n) (rowsOf l′ n′) → Agree (inYear base year) (inYear base′ year) (rowsOf m count) (rowsOf m′ count′)
+closed-years-agree d d′ base base′ year y y′ =
+    closed-bits-agree years-read d d′ (year - base) (year - base′)
+    (omega (arith, y .from-base, y .in-64))
+    (omega (arith, y′ .from-base, y′ .in-64))
+
+-- kind 5: "the same statement, combination by combination"
+pub combination-exactly-drawn : {l : Lanes} {n : ℕ} {m : Lanes} {count : ℕ} → Done 5 l n m count → (k : ℕ) → k < 64
+    → ExactlyDrawn Rule (hasBit k) (rowsOf l n) (rowsOf m count)
+combination-exactly-drawn = bit-exactly-drawn sheets-read
+
+pub closed-combinations-agree : {l : Lanes} {n : ℕ} {m : Lanes} {count : ℕ} → Done 5 l n m count
+    → {l′ : Lanes} {n′ : ℕ} {m′ : Lanes} {count′ : ℕ} → Done 5 l′ n′ m′ count′ → (k : ℕ) → k < 64
+    → Agree (hasBit k) (hasBit k) (rowsOf l n) (rowsOf l′ n′) → Agree (hasBit k) (hasBit k) (rowsOf m count) (rowsOf m′ count′)
+closed-combinations-agree d d′ k h = closed-bits-agree sheets-read d d′ k k h h

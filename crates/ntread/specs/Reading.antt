@@ -107,7 +107,7 @@ readLines kind a room [] es rows = readAs es rows
 readLines kind a room (l ∷ ls) es rows =
     readLine kind a room (l .place) (saidBy (lineOf (charsOf (l .bytes)))) es rows (λ es₁ rows₁. readLines kind a room ls es₁ rows₁)
 
--- "4 (kind), 11, 13 (the file over 65,535 bytes), 10 (annotation not legal in the kind)"
+-- "4 (kind), 11, 13 (the file over 65,535 bytes), 10 (annotation not legal in the kind)", and 28 directly behind it
 abbrev pub lentChecks : ℕ → ℕ → List ℕ → Lanes → NameLanes → List Check
 lentChecks kind a file l n =
     kindChecks kind 0

@@ -15,6 +15,7 @@ use Rattle.term.specs.Refusal.{Check, done, first}
 use Rattle.term.specs.declared.refusal.Verdict.{Verdict}
 use Rattle.term.proofs.Firsts.{Numbered, first-stops, first-clear, first-done, first-split}
 use Rattle.annotation.specs.Kinds.{isKind, isLegal}
+use Rattle.annotation.proofs.Judged.{annotation-numbered, passes-annotation}
 use Rattle.table.specs.Rows.{Row, Lanes, filled}
 use Rattle.table.specs.Sound.{Ascending, AllLegal, SoundRows, Sound}
 use Rattle.table.specs.Checks.{isUnfit}
@@ -78,7 +79,7 @@ module _ (kind a : ℕ) (file : List ℕ) (l : Lanes) (n : NameLanes) where
   result = readFile kind a file l n
 
   numbered : Numbered checks
-  numbered = (omega arith, (omega arith, (omega arith, (omega arith, tt))))
+  numbered = (omega arith, (omega arith, (omega arith, annotation-numbered kind a 0)))
 
   -- what the checks before the lines leave
   record Passed : Type 0 where
@@ -92,9 +93,9 @@ module _ (kind a : ℕ) (file : List ℕ) (l : Lanes) (n : NameLanes) where
       let x = first-split 4 0 (not (isKind kind)) _ (omega arith) e in
       let y = first-split 11 0 (isUnfit l || isUnfitList n) _ (omega arith) (x .1) in
       let z = first-split 13 0 (ltb 65535 (length file)) _ (omega arith) (y .1) in
-      let w = first-split 10 0 (not (isLegal kind a)) [] (omega arith) (z .1) in
+      let w = passes-annotation kind a 0 [] (z .1) in
       let u = neither (isUnfit l) (isUnfitList n) (y .0) in
-      record { kind-known = not-false (isKind kind) (x .0); fit-table = u .0; fit-list = u .1; legal = not-false (isLegal kind a) (w .0) }
+      record { kind-known = not-false (isKind kind) (x .0); fit-table = u .0; fit-list = u .1; legal = w .0 }
 
   few-names : isUnfitList n ≡ false → length (n .terms) ≤ 512
   few-names e =

@@ -33,7 +33,7 @@ unfoldable pub fileBytes : List Entry → List Row → List ℕ
 fileBytes es [] = []
 fileBytes es (r ∷ rs) = lineBytes es (r .s) (r .p) (r .o) ++ fileBytes es rs
 
--- "4, the table (11, 14, row by row 8, 9, 10, 15 at the row), the list (11, then 14: names over its lanes' length), 39, 12"
+-- "4, the table (11, 14, row by row 8, 9, 10, 28, 15 at the row), the list (11, then 14: names over its lanes' length), 39, 12"
 abbrev pub writeChecks : ℕ → Lanes → ℕ → NameLanes → ℕ → List ℕ → List Check
 writeChecks kind l count n names out =
     tableChecks kind l count

@@ -121,20 +121,34 @@ unfolding Over
 over-holds k [] e = tt
 over-holds k (x ∷ xs) e = let h = all-true (ltb k (key x) ∷ isOver k xs ∷ []) e in (ltb-true k (key x) (h .0), over-holds k xs (h .1 .0))
 
+abbrev termTests : Row → List Bool
+termTests x = isLegalTerm (x .s) ∷ isName (x .p) ∷ isLegalTerm (x .o) ∷ []
+
+-- all but the annotations
+unfoldable pub isOrdered : List Row → Bool
+isOrdered [] = true
+isOrdered (x ∷ xs) = allOf (isOver (key x) xs ∷ allOf (termTests x) ∷ isOrdered xs ∷ [])
+
 module _ (kind : ℕ) where
-  abbrev rowTests : Row → List Bool
-  rowTests x = isLegalTerm (x .s) ∷ isName (x .p) ∷ isLegalTerm (x .o) ∷ isLegal kind (x .a) ∷ []
+  abbrev pub AllAnnotated : List Row → Type 0
+  AllAnnotated [] = Unit {0}
+  AllAnnotated (x ∷ xs) = (isLegal kind (x .a) ≡ true) × AllAnnotated xs
 
-  unfoldable pub isSound : List Row → Bool
-  isSound [] = true
-  isSound (x ∷ xs) = allOf (isOver (key x) xs ∷ allOf (rowTests x) ∷ isSound xs ∷ [])
+  unfoldable pub isAnnotated : List Row → Bool
+  isAnnotated [] = true
+  isAnnotated (x ∷ xs) = allOf (isLegal kind (x .a) ∷ isAnnotated xs ∷ [])
 
-  pub sound-holds : (rows : List Row) → isSound rows ≡ true → SoundRows kind rows
-  unfolding isSound Ascending AllLegal
-  sound-holds [] e = record { ascending = tt; legal = tt }
-  sound-holds (x ∷ xs) e =
-      let h = all-true (isOver (key x) xs ∷ allOf (rowTests x) ∷ isSound xs ∷ []) e in
-      let r = all-true (rowTests x) (h .1 .0) in
-      let rest = sound-holds xs (h .1 .1 .0) in
-      let legal : LegalRow kind x = record { subject = r .0; predicate = r .1 .0; object = r .1 .1 .0; annotation = r .1 .1 .1 .0 } in
+  pub annotated-holds : (rows : List Row) → isAnnotated rows ≡ true → AllAnnotated rows
+  unfolding isAnnotated
+  annotated-holds [] e = tt
+  annotated-holds (x ∷ xs) e = let h = all-true (isLegal kind (x .a) ∷ isAnnotated xs ∷ []) e in (h .0, annotated-holds xs (h .1 .0))
+
+  pub sound-holds : (rows : List Row) → isOrdered rows ≡ true → AllAnnotated rows → SoundRows kind rows
+  unfolding isOrdered Ascending AllLegal
+  sound-holds [] e a = record { ascending = tt; legal = tt }
+  sound-holds (x ∷ xs) e a =
+      let h = all-true (isOver (key x) xs ∷ allOf (termTests x) ∷ isOrdered xs ∷ []) e in
+      let r = all-true (termTests x) (h .1 .0) in
+      let rest = sound-holds xs (h .1 .1 .0) (a .1) in
+      let legal : LegalRow kind x = record { subject = r .0; predicate = r .1 .0; object = r .1 .1 .0; annotation = a .0 } in
       record { ascending = (over-holds (key x) xs (h .0), rest .ascending); legal = (legal, rest .legal) }

@@ -19,7 +19,7 @@ use Rattle.rhodf.proofs.Growing.{rows-valued}
 use Rattle.rhodf.proofs.Drawing.{conclusionRow, drawn-same-closure, conclusion-legal}
 use Rattle.rhodf.proofs.ClosedStays.{closed-is-closure}
 use Rattle.rhodf.proofs.RulesDecided.{rules-keep-legal}
-use Rattle.rhodf.proofs.Checking.{allOf, all-true, isClosed, closed-holds, isSound, sound-holds}
+use Rattle.rhodf.proofs.Checking.{allOf, all-true, isClosed, closed-holds, isOrdered, AllAnnotated, isAnnotated, annotated-holds, sound-holds}
 
 -- a conclusion, and the rule that gives it
 pub record Conclusion : Type 0 where
@@ -64,14 +64,27 @@ module _ (kind : ℕ) where
             (graphOf (drawn cs (addRow (algebra kind) r rows))) (next .is-least);
       }
 
--- for a table and its closure written out: the rows are sound, each conclusion is to be drawn, and what then stands there is closed
+-- for a table and its closure written out: the rows are ordered, each conclusion is to be drawn, and what then stands there is closed
+unfoldable pub isDrawnBy : ℕ → List Conclusion → List Row → List Row → Bool
+unfolding algebra addRow valueAt isOrdered areDrawn drawn isClosed
+isDrawnBy kind cs rows closed = allOf (isOrdered rows ∷ areDrawn kind cs rows ∷ isClosed (algebra kind) closed ∷ [])
+
+-- its annotations are known to be legal
+pub closure-with : {kind : ℕ} {rows closed : List Row} (cs : List Conclusion) → AllAnnotated kind rows → drawn kind cs rows ≡ closed
+    → isDrawnBy kind cs rows closed ≡ true → ClosureOf kind Rule rows closed
+unfolding isDrawnBy
+closure-with {kind} {rows} {closed} cs legal e told =
+    let h = all-true (isOrdered rows ∷ areDrawn kind cs rows ∷ isClosed (algebra kind) closed ∷ []) told in
+    rw e at (drawn-closure kind cs rows (sound-holds kind rows (h .0) legal) (h .1 .0) (rw e (h .1 .1 .0)))
+
+-- or are tried too
 unfoldable pub isClosedBy : ℕ → List Conclusion → List Row → List Row → Bool
-unfolding algebra addRow valueAt isSound areDrawn drawn isClosed
-isClosedBy kind cs rows closed = allOf (isSound kind rows ∷ areDrawn kind cs rows ∷ isClosed (algebra kind) closed ∷ [])
+unfolding isDrawnBy isAnnotated
+isClosedBy kind cs rows closed = allOf (isAnnotated kind rows ∷ isDrawnBy kind cs rows closed ∷ [])
 
 pub closure-by : {kind : ℕ} {rows closed : List Row} (cs : List Conclusion) → drawn kind cs rows ≡ closed → isClosedBy kind cs rows closed ≡ true
     → ClosureOf kind Rule rows closed
 unfolding isClosedBy
 closure-by {kind} {rows} {closed} cs e told =
-    let h = all-true (isSound kind rows ∷ areDrawn kind cs rows ∷ isClosed (algebra kind) closed ∷ []) told in
-    rw e at (drawn-closure kind cs rows (sound-holds kind rows (h .0)) (h .1 .0) (rw e (h .1 .1 .0)))
+    let h = all-true (isAnnotated kind rows ∷ isDrawnBy kind cs rows closed ∷ []) told in
+    closure-with cs (annotated-holds kind rows (h .0)) e (h .1 .0)

@@ -1,11 +1,17 @@
 -- The bench examples P1 to P10, and those beside them, hold for the definitions: the rules that draw the new rows are named, the rest computes. Assumes nothing.
-use mathlib.Core.Path.{refl}
+use mathlib.Core.Path.{_≡_, refl}
+use mathlib.Core.Bool.{true}
 use mathlib.Core.List.{List, [], _∷_}
+use native.Mathlib.Omega.{arith}
 use Rattle.ground.specs.Lists.{Every}
+use Rattle.annotation.specs.Kinds.{algebra, isLegal}
+use Rattle.annotation.proofs.KindLaws.{laws}
+use Rattle.annotation.proofs.Legal.{value-legal}
+use Rattle.annotation.proofs.SheetExamplesHold.{sheet-examples-hold}
 use Rattle.table.proofs.ExamplesHold.{examples-hold as table-examples-hold}
 use Rattle.rhodf.specs.Rules.{r2b, r3a, r3b, r4b, r5a, r5b}
-use Rattle.rhodf.specs.Examples.{P1, P3, P4, P5, P6, P7, P8, P9, P10, RangeBeyondBlank, ThreeClasses, RangeOfValue, ThroughValue, examples}
-use Rattle.rhodf.proofs.DrawnClosure.{Conclusion, by, isClosedBy, closure-by}
+use Rattle.rhodf.specs.Examples.{P1, P3, P4, P5, P6, P7, P8, P9, P10, RangeBeyondBlank, ThreeClasses, RangeOfValue, ThroughValue, TwoSheets, OrAThird, examples}
+use Rattle.rhodf.proofs.DrawnClosure.{Conclusion, by, isDrawnBy, closure-with, isClosedBy, closure-by}
 
 p1 : P1
 unfolding isClosedBy
@@ -31,12 +37,17 @@ p7 : P7
 unfolding isClosedBy
 p7 = closure-by (by (r5a 16384 12 20 10 30) ∷ []) refl refl
 
+-- kind 5: the top is legal, and so is a line on one sheet
+top-legal : isLegal 5 (algebra 5 .top) ≡ true
+unfolding algebra
+top-legal = value-legal (algebra 5 .top) 5 (omega arith) (laws 5 .top-value)
+
 abbrev p8-drawn : List Conclusion
 p8-drawn = by (r2b 0 40 0 40) ∷ by (r2b 0 40 20 21) ∷ []
 
 p8 : P8
 unfolding isClosedBy
-p8 = (closure-by p8-drawn refl refl, closure-by p8-drawn refl refl, closure-by p8-drawn refl refl, closure-by p8-drawn refl refl)
+p8 = (closure-by p8-drawn refl refl, closure-by p8-drawn refl refl, closure-by p8-drawn refl refl, closure-with p8-drawn (top-legal, (top-legal, tt)) refl refl)
 
 p9 : P9
 unfolding isClosedBy
@@ -47,7 +58,7 @@ p10-drawn = by (r4b 20 12 10 32769) ∷ []
 
 p10 : P10
 unfolding isClosedBy
-p10 = (closure-by p10-drawn refl refl, closure-by p10-drawn refl refl, closure-by p10-drawn refl refl, closure-by p10-drawn refl refl)
+p10 = (closure-by p10-drawn refl refl, closure-by p10-drawn refl refl, closure-by p10-drawn refl refl, closure-with p10-drawn (top-legal, (top-legal, tt)) refl refl)
 
 range-beyond-blank : RangeBeyondBlank
 unfolding isClosedBy
@@ -65,6 +76,14 @@ through-value : ThroughValue
 unfolding isClosedBy
 through-value = closure-by (by (r5a 49152 12 20 10 30) ∷ []) refl refl
 
+two-sheets : TwoSheets
+unfolding isClosedBy
+two-sheets = closure-with (by (r3b 11 12 10) ∷ []) (sheet-examples-hold .alone .0 .legal, (sheet-examples-hold .alone .1 .legal, tt)) refl refl
+
+or-a-third : OrAThird
+unfolding isClosedBy
+or-a-third = closure-with (by (r3b 11 12 10) ∷ []) (sheet-examples-hold .alone .0 .legal, (sheet-examples-hold .alone .2 .legal, (sheet-examples-hold .alone .1 .legal, tt))) refl refl
+
 pub examples-hold : Every examples
 examples-hold =
-    (p1, (table-examples-hold .0, (p3, (p4, (p5, (p6, (p7, (p8, (p9, (p10, (range-beyond-blank, (three-classes, (range-of-value, (through-value, tt))))))))))))))
+    (p1, (table-examples-hold .0, (p3, (p4, (p5, (p6, (p7, (p8, (p9, (p10, (range-beyond-blank, (three-classes, (range-of-value, (through-value, (two-sheets, (or-a-third, tt))))))))))))))))

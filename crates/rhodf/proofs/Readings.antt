@@ -1,26 +1,15 @@
--- What can be read of annotations: a bit of kind 1's, a degree of at least u of kind 3's. (Of kind 4's nothing: the And of two degrees of at least u may be
--- less.) Assumes nothing.
-use mathlib.Core.Path.{_≡_, refl, sym, ap, _∙_}
-use mathlib.Core.Bool.{Bool, true, false, _&&_, _||_, and-eq-true-iff}
-use Prim.Native.Nat.{ℕ, _^_, _≤_, _<_}
+-- What can be read of annotations: a bit of kind 1's and of kind 5's, a degree of at least u of kind 3's. (Of kind 4's nothing: the And of two degrees of
+-- at least u may be less.) Assumes nothing.
+use mathlib.Core.Path.{_≡_, refl}
+use mathlib.Core.Bool.{Bool, true, false, _&&_, _||_}
+use Prim.Native.Nat.{ℕ, _≤_, _<_}
 use native.Mathlib.Omega.{arith}
 use lib.Dec.{leb}
-use lib.Pow.{pow-lt}
-use lib.Bits.{bitAnd, and-mask}
-use borrow.Author.Tests.{eq-eqb, leb-true, leb-false, le-leb, lt-leb}
-use Rattle.ground.specs.Bits.{has}
-use Rattle.ground.proofs.Masks.{has-or, has-and, has-power}
-use Rattle.annotation.specs.Algebra.{Algebra}
-use Rattle.annotation.specs.Kinds.{allBits, years, degree, algebra}
+use borrow.Author.Tests.{leb-true, leb-false, le-leb, lt-leb}
+use Rattle.ground.proofs.Masks.{has-or, has-and}
+use Rattle.annotation.specs.Kinds.{algebra}
+use Rattle.annotation.proofs.Combinations.{all-set}
 use Rattle.rhodf.specs.Plain.{Reads, hasBit}
-
--- all 64 bits are set
-all-set : (k : ℕ) → k < 64 → has allBits k ≡ true
-all-set k h =
-    let small : 2 ^ k < 2 ^ 64 = pow-lt h in
-    let same : bitAnd (2 ^ k) allBits ≡ 2 ^ k = and-mask (2 ^ k) 64 ∙ omega arith in
-    let own : has (2 ^ k) k ≡ true = has-power k k ∙ eq-eqb k k refl in
-    and-eq-true-iff (has (2 ^ k) k) (has allBits k) .0 (sym (has-and (2 ^ k) allBits k) ∙ ap (hasBit k) same ∙ own) .1
 
 -- a kind of which each of the 64 bits can be read
 abbrev pub ReadsBits : ℕ → Type 0
@@ -29,6 +18,10 @@ ReadsBits kind = (k : ℕ) → k < 64 → Reads (algebra kind) (hasBit k)
 pub years-read : ReadsBits 1
 unfolding algebra
 years-read k h = record { of-join = λ a b. has-or a b k; of-meet = λ a b va vb. has-and a b k; of-top = all-set k h }
+
+pub sheets-read : ReadsBits 5
+unfolding algebra
+sheets-read k h = record { of-join = λ a b. has-or a b k; of-meet = λ a b va vb. has-and a b k; of-top = all-set k h }
 
 -- a degree of at least u
 module _ (u : ℕ) where

@@ -11,13 +11,14 @@ use Rattle.ground.specs.Bits.{has}
 use Rattle.ground.specs.Lists.{All, Every}
 use Rattle.ground.proofs.Masks.{has-none, has-high}
 use Rattle.term.specs.Term.{sc, type}
-use Rattle.table.specs.Rows.{Triple, triple, Row, valueAt}
+use Rattle.annotation.proofs.SheetExamplesHold.{sheet-examples-hold}
+use Rattle.table.specs.Rows.{Triple, triple, Row, row, valueAt}
 use Rattle.table.specs.Sound.{SoundRows}
 use Rattle.table.proofs.Ordering.{Tri, less, same, more, tri}
 use Rattle.rhodf.specs.Graph.{graphOf}
 use Rattle.rhodf.specs.Rules.{Rule, r2a, r2b, r3a, r3b, r4a, r4b, r5a, r5b}
 use Rattle.rhodf.specs.Closure.{ClosureOf}
-use Rattle.rhodf.specs.Plain.{DrawnFrom, line, drawn, none, and, LinesOf, Agree, hasBit, inYear}
+use Rattle.rhodf.specs.Plain.{DrawnFrom, line, drawn, none, and, LinesOf, ExactlyDrawn, Agree, hasBit, inYear}
 use Rattle.rhodf.specs.YearExamples.{
   lamps,
   lampsClosed,
@@ -31,12 +32,14 @@ use Rattle.rhodf.specs.YearExamples.{
   ladder,
   InOneStep,
   ByTwoSteps,
+  onTwoSheets,
+  OnlyTogether,
   yearExamples,
 }
 use Rattle.rhodf.proofs.RulesDecided.{rules-keep-legal, rules-decided}
-use Rattle.rhodf.proofs.Checking.{everywhere, holds-everywhere, isSound, sound-holds}
-use Rattle.rhodf.proofs.DrawnClosure.{by, isClosedBy, closure-by}
-use Rattle.rhodf.proofs.Readings.{years-read}
+use Rattle.rhodf.proofs.Checking.{everywhere, holds-everywhere, isOrdered, AllAnnotated, sound-holds}
+use Rattle.rhodf.proofs.DrawnClosure.{by, isDrawnBy, closure-with, isClosedBy, closure-by}
+use Rattle.rhodf.proofs.Readings.{years-read, sheets-read}
 use Rattle.rhodf.proofs.Years.{bit-exactly-drawn, bits-agree, years-agree}
 
 -- two tests of one outcome
@@ -73,16 +76,16 @@ unfolding isClosedBy
 others-close = closure-by (by (r3b 11 12 10) ∷ []) refl refl
 
 lamps-sound : SoundRows 1 lamps
-unfolding isSound
-lamps-sound = sound-holds 1 lamps refl
+unfolding isOrdered
+lamps-sound = sound-holds 1 lamps refl (refl, (refl, tt))
 
 others-sound : SoundRows 1 others
-unfolding isSound
-others-sound = sound-holds 1 others refl
+unfolding isOrdered
+others-sound = sound-holds 1 others refl (refl, (refl, (refl, tt)))
 
 from1998-sound : SoundRows 1 from1998
-unfolding isSound
-from1998-sound = sound-holds 1 from1998 refl
+unfolding isOrdered
+from1998-sound = sound-holds 1 from1998 refl (refl, (refl, tt))
 
 -- 96 is bits 5 and 6
 bits-of-96 : (k : ℕ) → hasBit k 96 ≡ true → (k ≡ 5) ⊎ (k ≡ 6)
@@ -173,5 +176,29 @@ by-two-steps = record {
     at-once (inl e) = true≢false (sym e)
     at-once (inr w) = not-by-one-rule (w .0) (triple 10 type 7) (w .1) refl (w .2)
 
+abbrev togetherClosed : List Row
+togetherClosed = row 10 type 11 0xAAAAAAAAAAAAAAAA ∷ row 10 type 12 0x8888888888888888 ∷ row 11 sc 12 0xCCCCCCCCCCCCCCCC ∷ []
+
+together-legal : AllAnnotated 5 onTwoSheets
+together-legal = (sheet-examples-hold .alone .0 .legal, (sheet-examples-hold .alone .1 .legal, tt))
+
+together-close : ClosureOf 5 Rule onTwoSheets togetherClosed
+unfolding isDrawnBy
+together-close = closure-with (by (r3b 11 12 10) ∷ []) together-legal refl refl
+
+together-sound : SoundRows 5 onTwoSheets
+unfolding isOrdered
+together-sound = sound-holds 5 onTwoSheets refl together-legal
+
+only-together : OnlyTogether
+unfolding valueAt has
+only-together = record {
+  together = exactly 3 (omega arith) (triple 10 type 12) .0 refl;
+  alone = λ t d. sym (agree-by 1 1 togetherClosed onTwoSheets refl refl t) ∙ exactly 1 (omega arith) t .1 d;
+}
+  where
+    exactly : (k : ℕ) → k < 64 → ExactlyDrawn Rule (hasBit k) onTwoSheets togetherClosed
+    exactly k h = bit-exactly-drawn Rule rules-keep-legal rules-decided 5 sheets-read k h onTwoSheets togetherClosed together-sound together-close
+
 pub year-examples-hold : Every yearExamples
-year-examples-hold = (in-two-years, (alike-in-2005, (two-base-years, (by-two-steps, tt))))
+year-examples-hold = (in-two-years, (alike-in-2005, (two-base-years, (by-two-steps, (only-together, tt)))))

@@ -1,5 +1,5 @@
 -- Bit by bit, for every kind of which bits can be read: two tables whose lines of a bit agree have closures that agree there; and a line that has not the bit
--- leaves all of that bit as it is. For kind 1 a bit is a year. The same for degrees of at least u, kind 3. Assumes nothing.
+-- leaves all of that bit as it is. For kind 1 a bit is a year, for kind 5 a combination of sheets. The same for degrees of at least u, kind 3. Assumes nothing.
 use mathlib.Core.Path.{_≡_, refl, sym, _∙_}
 use mathlib.Core.Bool.{Bool, true, false, _||_}
 use mathlib.Core.List.{List}

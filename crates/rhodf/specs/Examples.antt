@@ -1,4 +1,4 @@
--- The document's bench examples P1 to P10, each a statement on a table and its closure, two of our own, and two of measured values.
+-- The document's bench examples P1 to P10, each a statement on a table and its closure, two of our own, two of measured values and two of sheets.
 use mathlib.Core.List.{List, [], _∷_}
 use Prim.Native.Nat.{ℕ}
 use Rattle.term.specs.Term.{sp, sc, type, dom, range, milliamps}
@@ -8,9 +8,9 @@ use Rattle.table.specs.Examples.{P2}
 use Rattle.rhodf.specs.Rules.{Rule}
 use Rattle.rhodf.specs.Closure.{ClosureOf}
 
--- an example that names no kind, in all four
+-- an example that names no kind, in every kind
 abbrev InEachKind : (ℕ → Type 0) → Type 0
-InEachKind P = P 1 × P 2 × P 3 × P 4
+InEachKind P = P 1 × P 3 × P 4 × P 5
 
 -- "P1 the listing": kind 1, (10 type 11):120 and (11 sc 12):2016; "10 2 11 120", "10 2 12 96", "11 1 12 2016"
 abbrev pub P1 : Type 0
@@ -112,6 +112,20 @@ ThroughValue =
     (row 10 20 30 800 ∷ row 20 sp (milliamps 0) 1000 ∷ row (milliamps 0) dom 12 900 ∷ [])
     (row 10 type 12 800 ∷ row 10 20 30 800 ∷ row 20 sp (milliamps 0) 1000 ∷ row (milliamps 0) dom 12 900 ∷ [])
 
+-- kind 5, what is on sheet 0 and what is on sheet 1 prove a line together: the 16 combinations with both
+abbrev pub TwoSheets : Type 0
+TwoSheets =
+    ClosureOf 5 Rule
+    (row 10 type 11 0xAAAAAAAAAAAAAAAA ∷ row 11 sc 12 0xCCCCCCCCCCCCCCCC ∷ [])
+    (row 10 type 11 0xAAAAAAAAAAAAAAAA ∷ row 10 type 12 0x8888888888888888 ∷ row 11 sc 12 0xCCCCCCCCCCCCCCCC ∷ [])
+
+-- and sheet 2 says it too: 0 and 1 together, or 2
+abbrev pub OrAThird : Type 0
+OrAThird =
+    ClosureOf 5 Rule
+    (row 10 type 11 0xAAAAAAAAAAAAAAAA ∷ row 10 type 12 0xF0F0F0F0F0F0F0F0 ∷ row 11 sc 12 0xCCCCCCCCCCCCCCCC ∷ [])
+    (row 10 type 11 0xAAAAAAAAAAAAAAAA ∷ row 10 type 12 0xF8F8F8F8F8F8F8F8 ∷ row 11 sc 12 0xCCCCCCCCCCCCCCCC ∷ [])
+
 -- P2 is the table's own
 abbrev pub examples : List (Type 0)
-examples = P1 ∷ P2 ∷ P3 ∷ P4 ∷ P5 ∷ P6 ∷ P7 ∷ P8 ∷ P9 ∷ P10 ∷ RangeBeyondBlank ∷ ThreeClasses ∷ RangeOfValue ∷ ThroughValue ∷ []
+examples = P1 ∷ P2 ∷ P3 ∷ P4 ∷ P5 ∷ P6 ∷ P7 ∷ P8 ∷ P9 ∷ P10 ∷ RangeBeyondBlank ∷ ThreeClasses ∷ RangeOfValue ∷ ThroughValue ∷ TwoSheets ∷ OrAThird ∷ []

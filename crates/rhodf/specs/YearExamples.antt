@@ -62,5 +62,14 @@ pub record ByTwoSteps : Type 0 where
   pub drawn-there : DrawnFrom Rule (LinesOf (hasBit 0) ladder) (triple 10 type 7)
   pub not-at-once : InOneStep Rule (LinesOf (hasBit 0) ladder) (triple 10 type 7) → ⊥
 
+-- kind 5: a class on sheet 0, a subclass line on sheet 1
+abbrev pub onTwoSheets : List Row
+onTwoSheets = row 10 type 11 0xAAAAAAAAAAAAAAAA ∷ row 11 sc 12 0xCCCCCCCCCCCCCCCC ∷ []
+
+-- combination 3, sheets 0 and 1, has both lines and draws (10 type 12); combination 1, sheet 0, has one line and draws nothing more
+pub record OnlyTogether : Type 0 where
+  pub together : DrawnFrom Rule (LinesOf (hasBit 3) onTwoSheets) (triple 10 type 12)
+  pub alone : (t : Triple) → DrawnFrom Rule (LinesOf (hasBit 1) onTwoSheets) t → LinesOf (hasBit 1) onTwoSheets t
+
 abbrev pub yearExamples : List (Type 0)
-yearExamples = InTwoYears ∷ AlikeIn2005 ∷ TwoBaseYears ∷ ByTwoSteps ∷ []
+yearExamples = InTwoYears ∷ AlikeIn2005 ∷ TwoBaseYears ∷ ByTwoSteps ∷ OnlyTogether ∷ []

@@ -14,7 +14,7 @@ use Rattle.table.specs.Checks.{tableChecks, tripleChecks}
 abbrev pub rowsWith : ℕ → Row → Lanes → ℕ → List Row
 rowsWith kind r l n = addRow (algebra kind) r (rowsOf l n)
 
--- "Adding: table, then the triple's 8, 9, 10, then 12"
+-- "Adding: table, then the triple's 8, 9, 10, then 12"; 28 behind 10
 abbrev pub addChecks : ℕ → Row → Lanes → ℕ → List Check
 addChecks kind r l n =
     tableChecks kind l n

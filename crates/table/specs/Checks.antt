@@ -11,7 +11,7 @@ use Rattle.term.specs.Term.{isLegalTerm, isName}
 use Rattle.annotation.specs.Kinds.{kindChecks, annotationChecks}
 use Rattle.table.specs.Rows.{Row, Lanes, mostRows, rowAt, keyAt}
 
--- "8, 9, 10: 65,535; predicate not a name; annotation illegal", by number: 8 for any of the three terms comes first
+-- "8, 9, 10: 65,535; predicate not a name; annotation illegal", then 28, by number: 8 for any of the three terms comes first
 abbrev pub tripleChecks : ℕ → Row → ℕ → List Check
 tripleChecks kind r place =
     refuse (not (isLegalTerm (r .s) && (isLegalTerm (r .p) && isLegalTerm (r .o)))) 8 place
@@ -38,7 +38,7 @@ isUnfit l =
     (eqb (length (l .pred)) (length (l .subj))
     && (eqb (length (l .obj)) (length (l .subj)) && (eqb (length (l .ann)) (length (l .subj)) && leb (length (l .subj)) mostRows)))
 
--- "Tables: 4, 11, 14, then row by row 8, 9, 10, 15"
+-- "Tables: 4, 11, 14, then row by row 8, 9, 10, 15"; 28 behind 10
 abbrev pub tableChecks : ℕ → Lanes → ℕ → List Check
 tableChecks kind l n =
     kindChecks kind 0

@@ -1,5 +1,5 @@
 // A table: rows in four lent lanes and a count, sorted by subject, predicate, object.
-// Refused here: a kind (4), lanes that do not fit (11), no room (12), a count past the lanes (14), and rows (8, 9, 10, 15).
+// Refused here: a kind (4), lanes that do not fit (11), no room (12), a count past the lanes (14), and rows (8, 9, 10, 28, 15).
 ghost use mathlib.Core.Path.{_≡_};
 ghost use Rattle.table.specs.Lent.{before, after};
 ghost use mathlib.Core.Bool.{cond};

@@ -69,7 +69,7 @@ fn shown_add(
 // Sound; a kind that is none; degrees past 1000; a count past the lanes.
 fn check_all(subj: &[u16], pred: &[u16], obj: &[u16], ann: &[u64], count: usize) {
     shown_check(1, subj, pred, obj, ann, count);
-    shown_check(5, subj, pred, obj, ann, count);
+    shown_check(2, subj, pred, obj, ann, count);
     shown_check(3, subj, pred, obj, ann, count);
     shown_check(1, subj, pred, obj, ann, 4);
 }

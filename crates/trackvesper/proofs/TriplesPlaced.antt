@@ -117,7 +117,7 @@ read-small kind a file l n = go (eqb (first (lentChecks kind a file l n) .number
         → Small (whenDone t (first (lentChecks kind a file l n)) (λ _. readLines kind a (roomOf l n) (linesFrom 0 file) [] []))
     go true e = done-small (eqb-true (first (lentChecks kind a file l n) .number) 0 e)
     go false e =
-        let b = first-below 0 (lentChecks kind a file l n) (omega arith, (omega arith, (omega arith, (omega arith, tt)))) in
+        let b = first-below 0 (lentChecks kind a file l n) (omega arith, (omega arith, (omega arith, (omega arith, (omega arith, tt))))) in
         record { place = omega (arith, b); rows = omega arith; entries = omega arith }
 
 -- ---- the exported answers

@@ -1,7 +1,7 @@
 //! Inputs for the counter's program with the output that document 01 gives for them, worked out by
 //! hand from the tables beside.
 
-use crate::stored::p1;
+use crate::stored::{p1, SHEETS_0_AND_1, SHEET_0, SHEET_1};
 use crate::stored_questions::{ann, con, holder, lamp, least, longest, only, p11, terms, triple};
 use crate::stored_questions::{var, BOTH, EITHER};
 
@@ -40,6 +40,14 @@ fn limits() -> Vec<u8> {
     [&[1, 0, 4, 1, 1, 7, 208][..], &row(20, 49_652), &row(20, 32_768), &row(2, 11)].concat()
 }
 
+/// (10 type 11) on sheet 0 and (11 sc 12) on sheet 1: closed, (10 type 12) by both together.
+fn two_sheets() -> Vec<u8> {
+    let head = vec![1, 0, 4, 1, 5, 0, 0];
+    let class = [&[3, 0, 14, 0, 10, 0, 2, 0, 11][..], &SHEET_0.to_be_bytes()].concat();
+    let within = [&[3, 0, 14, 0, 11, 0, 1, 0, 12][..], &SHEET_1.to_be_bytes()].concat();
+    [head, class, within].concat()
+}
+
 /// P1's table is, closed: (10 type 11):120, (10 type 12):96, (11 sc 12):2016.
 pub fn countings() -> Vec<(&'static str, Vec<u8>, String)> {
     let either = holder(EITHER, &[&lamp(0, 0), &triple(var(0), con(2), con(12), &ann(1, 0))]);
@@ -58,7 +66,14 @@ pub fn countings() -> Vec<(&'static str, Vec<u8>, String)> {
     let mut cut = input(&p1(), &[p11()]);
     cut.push(0);
     let short = [input(&p1(), &[p11()]), vec![0, 5, 16, 0]].concat();
+    let on_12 = |annotation| triple(var(0), con(2), con(12), &ann(0, annotation));
+    let asked_sheets = [on_12(SHEETS_0_AND_1), on_12(SHEET_0), on_12(8)];
     vec![
+        (
+            "a combination of sheets that is enough, one that is not, and 28",
+            input(&two_sheets(), &asked_sheets),
+            "asked 0 0 1 3\n".to_string() + &line(&[10], &[]) + "asked 0 0 0 3\nasked 28 0 0 0\n",
+        ),
         ("P11", input(&p1(), &[p11()]), p11_asked.clone()),
         ("either", input(&p1(), &[either]), "asked 0 0 2 6\n".to_string() + &both_ways),
         (

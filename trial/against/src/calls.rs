@@ -83,7 +83,12 @@ exports_over_lanes! {
 }
 
 extern "C" {
-    fn trackvesper_close_book(book: *const u8, book_len: usize, out: *mut u8, out_len: usize) -> u64;
+    fn trackvesper_close_book(
+        book: *const u8,
+        book_len: usize,
+        out: *mut u8,
+        out_len: usize,
+    ) -> u64;
 
     fn trackvesper_compile(
         kind: u8,

@@ -276,8 +276,7 @@ fn refusal(kind: u8, ann: u64, file: &[u8], lanes: &Lanes, names: &Names) -> (u3
         () if !annotation::kind_legal(kind) => 4,
         () if !lanes.fit() || !names.fit() => 11,
         () if file.len() > book::LONGEST => 13,
-        () if !annotation::legal(kind, ann) => 10,
-        () => 0,
+        () => annotation::judge(kind, ann),
     };
     (number, 0)
 }

@@ -63,7 +63,7 @@ fn uses(count: u16) -> Vec<Triple> {
 }
 
 fn sorted(kind: u8, triples: Vec<Triple>) -> Vec<Row> {
-    let ann = if kind < 3 { 7 } else { 1000 };
+    let ann = if kind == 1 { 7 } else { 1000 };
     triples
         .into_iter()
         .map(|triple| (triple, ann))

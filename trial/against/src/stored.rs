@@ -15,6 +15,11 @@ pub fn lanes(rows: &[Row], room: usize) -> Lanes {
     lanes
 }
 
+/// A line on sheet 0 alone, on sheet 1 alone, and what needs both.
+pub const SHEET_0: u64 = 0xAAAA_AAAA_AAAA_AAAA;
+pub const SHEET_1: u64 = 0xCCCC_CCCC_CCCC_CCCC;
+pub const SHEETS_0_AND_1: u64 = 0x8888_8888_8888_8888;
+
 pub fn addings() -> Vec<Adding> {
     let lamp = (10, 2, 11);
     vec![
@@ -25,10 +30,16 @@ pub fn addings() -> Vec<Adding> {
         // Room 0.
         (1, lanes(&[], 0), 0, (lamp, 1)),
         // The largest terms and annotation that are legal.
-        (2, lanes(&[], 1), 0, ((65_534, 16_383, 65_534), u64::MAX)),
+        (5, lanes(&[], 1), 0, ((65_534, 16_383, 65_534), u64::MAX)),
         // A value as predicate is 9, beside 65,535 it is 8 (C-17).
         (3, lanes(&[], 1), 0, ((10, 49_152, 11), 800)),
         (3, lanes(&[], 1), 0, ((10, 49_152, 65_535), 800)),
+        // Kind 2 is gone; in kind 5 10 before 28, and both before 12.
+        (2, lanes(&[], 1), 0, (lamp, 1)),
+        (5, lanes(&[], 0), 0, (lamp, 0)),
+        (5, lanes(&[], 0), 0, (lamp, 2)),
+        (5, lanes(&[], 0), 0, (lamp, SHEET_0)),
+        (5, lanes(&[(lamp, SHEET_0)], 1), 1, (lamp, SHEET_1)),
         // 8 before 9 before 10, wherever 65,535 stands.
         (3, lanes(&[], 1), 0, ((10, 16_384, 65_535), 0)),
         (3, lanes(&[], 1), 0, ((10, 16_384, 11), 1001)),
@@ -73,7 +84,16 @@ pub fn books() -> Vec<Book> {
         ("3: edition 2", head(2, 1, 2000), 2, 3, 0),
         ("3 before 4 and 5", head(0, 9, 1), 2, 3, 0),
         ("4: kind 0", head(1, 0, 0), 2, 4, 0),
-        ("4: kind 5", head(1, 5, 2000), 2, 4, 0),
+        ("4: kind 2", head(1, 2, 0), 2, 4, 0),
+        ("4: kind 6", head(1, 6, 2000), 2, 4, 0),
+        ("5: 2000 in kind 5", head(1, 5, 2000), 2, 5, 0),
+        ("10: bottom in kind 5", book(5, &[(10, 2, 11, 0)]), 2, 10, 7),
+        ("28: sheet 0 and not sheets 0 and 1", book(5, &[(10, 2, 11, 2)]), 2, 28, 7),
+        ("28: no sheet, and not every other", book(5, &[(10, 2, 11, 1)]), 2, 28, 7),
+        ("all six sheets", book(5, &[(10, 2, 11, 1 << 63)]), 2, 0, 0),
+        ("any one sheet", book(5, &[(10, 2, 11, u64::MAX - 1)]), 2, 0, 0),
+        ("8 before 28", book(5, &[(10, 2, 65_535, 2)]), 2, 8, 7),
+        ("28 before 12", book(5, &[(10, 2, 11, SHEET_0), (10, 2, 12, 2)]), 1, 28, 24),
         ("5: 1899 in kind 1", head(1, 1, 1899), 2, 5, 0),
         ("5: 2101 in kind 1", head(1, 1, 2101), 2, 5, 0),
         ("5: 2000 in kind 3", head(1, 3, 2000), 2, 5, 0),
@@ -183,9 +203,26 @@ pub fn listings() -> Vec<Listing> {
             book(3, &[(20, 0, 49_152, top), (49_152, 3, 12, 900), (10, 20, 30, 800)]),
             "closed 3 0 4\n10 2 12 800\n10 20 30 800\n20 0 49152 1000\n49152 3 12 900\n",
         ),
+        (
+            "two sheets prove a line together",
+            book(5, &[(10, 2, 11, SHEET_0), (11, 1, 12, SHEET_1)]),
+            "closed 5 0 3\n10 2 11 12297829382473034410\n10 2 12 9838263505978427528\n\
+             11 1 12 14757395258967641292\n",
+        ),
+        (
+            "or a third does",
+            book(
+                5,
+                &[(10, 2, 11, SHEET_0), (11, 1, 12, SHEET_1), (10, 2, 12, 0xF0F0_F0F0_F0F0_F0F0)],
+            ),
+            "closed 5 0 3\n10 2 11 12297829382473034410\n10 2 12 17940362863843014904\n\
+             11 1 12 14757395258967641292\n",
+        ),
+        ("28", book(5, &[(10, 2, 11, 2)]), "refused 28 7\n"),
         ("nothing", vec![], "refused 2 0\n"),
         ("40 bytes of P1", p1()[..40].to_vec(), "refused 1 24\n"),
         ("too long", vec![0; 65_536], "refused 13 0\n"),
-        ("a head alone", head(1, 2, 0), "closed 2 0 0\n"),
+        ("a head alone", head(1, 5, 0), "closed 5 0 0\n"),
+        ("a head of kind 2", head(1, 2, 0), "refused 4 0\n"),
     ]
 }

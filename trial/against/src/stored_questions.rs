@@ -3,6 +3,8 @@
 //! A TRIPLE is 21 bytes, a holder's own tag and length 3: the left part of the outermost BOTH,
 //! EITHER or ONLY begins at 3, what follows a TRIPLE there at 24.
 
+use crate::stored::SHEETS_0_AND_1;
+
 /// A name, a kind, the bytes, and the number and place that compiling must give.
 pub type Question = (&'static str, u8, Vec<u8>, u32, u64);
 
@@ -211,12 +213,19 @@ fn constants() -> Vec<Question> {
     let one = lamp(0, 0);
     let with = |s: u16, p: u16, o: u16, a: u64| triple(con(s), con(p), con(o), &ann(0, a));
     vec![
-        ("the last constants", 2, with(65_534, 16_383, 65_534, u64::MAX), 0, 0),
-        ("C-17: the first value", 2, with(49_152, 16_383, 49_152, u64::MAX), 0, 0),
+        ("the last constants", 5, with(65_534, 16_383, 65_534, u64::MAX), 0, 0),
+        ("C-17: the first value", 5, with(49_152, 16_383, 49_152, u64::MAX), 0, 0),
         ("8: subject", 1, with(65_535, 2, 11, 1), 8, 0),
         ("8: predicate", 1, with(10, 65_535, 11, 1), 8, 0),
         ("9: predicate a value (C-17)", 1, with(10, 49_152, 11, 1), 9, 0),
         ("8: object, nested", 1, holder(EITHER, &[&one, &with(10, 2, 65_535, 1)]), 8, 24),
+        ("10: bottom in kind 5", 5, with(10, 2, 11, 0), 10, 0),
+        ("28: bit 3 alone", 5, with(10, 2, 12, 8), 28, 0),
+        ("28: nested", 5, holder(BOTH, &[&one, &with(10, 2, 11, 1)]), 28, 24),
+        ("9 before 28", 5, with(10, 16_384, 11, 8), 9, 0),
+        ("sheets 0 and 1", 5, with(10, 2, 11, SHEETS_0_AND_1), 0, 0),
+        ("28: a test's constant", 5, only(&one, &least(0, 8)), 28, 24),
+        ("28: a test's, before 21", 5, only(&one, &least(5, 2)), 28, 24),
         ("9: predicate a blank", 1, with(10, 16_384, 11, 1), 9, 0),
         (
             "9: predicate a literal, nested",

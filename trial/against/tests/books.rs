@@ -43,7 +43,7 @@ fn p1_reads_to_its_two_rows() {
 #[test]
 fn every_cut_agrees() {
     let mut random = Random::new(3);
-    for kind in 1..=4 {
+    for kind in [1, 3, 4, 5] {
         let bytes = deal::of_length(&mut random, kind, 4);
         for length in 0..=bytes.len() {
             books::read_one(&bytes[..length], &tables::lanes_of(&mut random, &[], 4)).unwrap();
@@ -55,7 +55,7 @@ fn every_cut_agrees() {
 #[test]
 fn every_damaged_byte_agrees() {
     let mut random = Random::new(4);
-    for kind in 1..=4 {
+    for kind in [1, 3, 4, 5] {
         let good = deal::of_length(&mut random, kind, 3);
         for at in 0..good.len() {
             for value in [0, 1, 2, 3, 4, 14, 63, 64, 127, 128, 192, 255] {

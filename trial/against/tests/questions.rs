@@ -26,7 +26,7 @@ fn stored_questions_get_their_number_and_place() {
 #[test]
 fn every_number_is_stored() {
     let all = stored::all();
-    for number in [4, 8, 9, 10, 16, 17, 18, 19, 20, 21, 22] {
+    for number in [4, 8, 9, 10, 16, 17, 18, 19, 20, 21, 22, 28] {
         assert!(all.iter().any(|question| question.3 == number), "{number}");
         assert!(number == 4 || all.iter().any(|q| q.3 == number && q.4 > 0), "{number} nested");
     }
@@ -78,7 +78,7 @@ fn either_compiles_to_fork_and_go() {
 fn the_longest_question_fills_the_records() {
     let bytes = stored::longest();
     assert_eq!(bytes.len(), 394);
-    for kind in 1..=4 {
+    for kind in [1, 3, 4, 5] {
         let (answer, records) = compiled(kind, &bytes, 48);
         assert_eq!((answer.number, answer.steps), (0, 48));
         let seek = record([0, 0, 0, 1, 0, 0, 2, 0, 11, 1, 0]);
@@ -96,7 +96,7 @@ fn the_longest_question_fills_the_records() {
 fn thirty_two_parts_pass_and_thirty_three_do_not() {
     let mut random = Random::new(6);
     for parts in 1..=33 {
-        for kind in 1..=4 {
+        for kind in [1, 3, 4, 5] {
             let bytes = bytes_of(&deal::valid(&mut random, kind, parts));
             questions::compile_one(kind, &bytes, 48).unwrap();
             let number = compiled(kind, &bytes, 48).0.number;
@@ -119,7 +119,7 @@ fn every_cut_agrees() {
 #[test]
 fn every_damaged_byte_agrees() {
     let mut random = Random::new(7);
-    for kind in 1..=4 {
+    for kind in [1, 3, 4, 5] {
         let good = bytes_of(&deal::valid(&mut random, kind, 7));
         for at in 0..good.len() {
             for value in [0, 1, 2, 3, 7, 8, 11, 15, 16, 17, 18, 19, 20, 64, 127, 128, 192, 255] {

@@ -84,8 +84,9 @@ fn judge(
     if file.len() > book::LONGEST {
         return Err(Verdict::new(13, 0));
     }
-    if !annotation::legal(kind, ann) {
-        return Err(Verdict::new(10, 0));
+    let number = annotation::judge(kind, ann);
+    if number != 0 {
+        return Err(Verdict::new(number, 0));
     }
     let mut contents = Contents::default();
     for (place, line) in grammar::lines(file) {

@@ -38,7 +38,7 @@ pub fn valid(random: &mut Random, kind: u8) -> Vec<u8> {
 
 /// Any head: each of its contents may be wrong, and its tag and length too.
 pub fn head(random: &mut Random) -> Vec<u8> {
-    let kind = random.pick(&[0, 1, 1, 1, 2, 3, 4, 5, 255]);
+    let kind = random.pick(&[0, 1, 1, 1, 2, 3, 4, 5, 6, 255]);
     let edition = random.pick(&[0, 1, 1, 1, 1, 2, 255]);
     let base = random.pick(&[0, 0, 1, 1899, 1900, 2000, 2100, 2101, 65_535]);
     let mut bytes = book::head(edition, kind, base);

@@ -266,7 +266,7 @@ fn lent(random: &mut Random, needs: Needs) -> (Lanes, Names) {
 /// A kind and an annotation, sometimes illegal.
 fn kind_and_annotation(random: &mut Random) -> (u8, u64) {
     if random.chance(24) {
-        return (random.pick(&[0, 5, 6, 128, 255]), random.pick(&[0, 1, u64::MAX]));
+        return (random.pick(&[0, 2, 6, 128, 255]), random.pick(&[0, 1, u64::MAX]));
     }
     let kind = legal_kind(random);
     let legal = !random.chance(24);

@@ -13,6 +13,7 @@ pub mod questions;
 pub mod steps;
 pub mod tables;
 
+use crate::annotation::LARGER;
 use crate::table::{Row, Triple};
 use crate::term::{SC, TYPE};
 
@@ -77,13 +78,13 @@ pub const NO_NAMES: [u16; 9] =
     [16_384, 16_385, 32_767, 32_768, 32_769, 49_151, 49_152, 49_652, 65_534];
 
 pub fn legal_kind(random: &mut Random) -> u8 {
-    random.pick(&[1, 2, 3, 4])
+    random.pick(&[1, 3, 4, 5, 5])
 }
 
 /// Mostly legal.
 pub fn kind(random: &mut Random) -> u8 {
     if random.chance(16) {
-        return random.pick(&[0, 5, 255]);
+        return random.pick(&[0, 2, 6, 255]);
     }
     legal_kind(random)
 }
@@ -91,9 +92,10 @@ pub fn kind(random: &mut Random) -> u8 {
 /// A legal annotation; for an illegal kind, anything.
 pub fn annotation(random: &mut Random, kind: u8) -> u64 {
     match kind {
-        1 | 2 => year_set(random),
+        1 => year_set(random),
         3 => random.pick(&[1, 2, 400, 500, 600, 700, 999, 1000, 1000]),
         4 => random.pick(&[1, 400, 500, 600, 700, 800, 900, 999, 1000, 1000]),
+        5 => sheet_set(random),
         _ => random.draw(),
     }
 }
@@ -109,6 +111,38 @@ fn year_set(random: &mut Random) -> u64 {
     set.max(1)
 }
 
+/// Kind 5: the combinations that hold all the sheets of `k`; sheet i alone is `with(1 << i)`.
+pub fn with(k: usize) -> u64 {
+    LARGER.get(k).copied().unwrap_or(0)
+}
+
+/// Few sheets, mostly the same few, so that combinations meet; the empty one now and then.
+fn combination(random: &mut Random) -> usize {
+    match random.below(8) {
+        0 => random.below(64),
+        1 => 1 << random.below(6),
+        2 => random.pick(&[0, 63]),
+        _ => random.pick(&[1, 2, 3, 4, 5, 6, 8, 32]),
+    }
+}
+
+/// Built from pieces, each a combination and all larger ones: of 2^64 numbers only 7,828,353 are
+/// legal in kind 5.
+fn sheet_set(random: &mut Random) -> u64 {
+    (0..random.from_to(1, 3)).fold(0, |set, _| set | with(combination(random)))
+}
+
+/// A legal annotation of kind 5 less one of the larger combinations that it must have; or a few
+/// bits at will, of which the larger are missing.
+fn torn_sheet_set(random: &mut Random) -> u64 {
+    match random.below(4) {
+        0 => 1 << random.below(63),
+        1 => random.draw() & !(1 << 63),
+        2 => sheet_set(random) & !(1 << random.pick(&[63, 62, 31, 7])),
+        _ => random.pick(&[1, 2, 4, 8, 0xFF, u64::MAX >> 1]),
+    }
+}
+
 /// A legal annotation to ask for: low, so that it is often at most a row's.
 pub fn threshold(random: &mut Random, kind: u8) -> u64 {
     if random.chance(4) {
@@ -116,14 +150,17 @@ pub fn threshold(random: &mut Random, kind: u8) -> u64 {
     }
     match kind {
         3 | 4 => random.pick(&[1, 1, 2, 400, 500]),
+        5 => with(random.pick(&[1, 3, 3, 7, 15, 33, 63])),
         _ => 1 << random.below(8),
     }
 }
 
-/// An annotation illegal in the kind: 0, or over 1000 in kinds 3 and 4.
+/// An annotation illegal in the kind: 0, over 1000 in kinds 3 and 4, or in kind 5 one that (but for
+/// a few) misses a larger combination.
 pub fn bad_annotation(random: &mut Random, kind: u8) -> u64 {
     match kind {
         3 | 4 => random.pick(&[0, 1001, 1 << 32, u64::MAX]),
+        5 if !random.chance(3) => torn_sheet_set(random),
         _ => 0,
     }
 }

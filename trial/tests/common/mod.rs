@@ -64,7 +64,7 @@ pub fn triple(subj: Slot, pred: Slot, obj: Slot, ann: AnnSlot) -> Part {
     Part::Triple(Pattern { subj, pred, obj, ann })
 }
 
-/// Any row at all, binding nothing in kinds 1 and 2 but asking for year 0.
+/// Any row at all.
 pub fn plain() -> Part {
     triple(v(0), v(1), v(2), va(0))
 }

@@ -13,6 +13,7 @@ use std::hint::black_box;
 use std::path::Path;
 use std::process::{Command, Stdio};
 use std::time::Instant;
+use trial::annotation::LARGER;
 use trial::ntriples::Names;
 use trial::steps::{Step, ANNS, MOST_ANSWERS, MOST_STEPS, TERMS};
 use trial::table::{self, Lanes, Row, Triple};
@@ -24,8 +25,9 @@ fn annotated(kind: u8, triples: &[Triple]) -> Vec<Row> {
     triples.sort_unstable();
     triples.dedup();
     let ann = |at: usize| match kind {
-        1 | 2 => 0xFFFF_FFFF_0000 | 1 << (at % 40),
+        1 => 0xFFFF_FFFF_0000 | 1 << (at % 40),
         3 => 500 + (at as u64 * 37) % 500,
+        5 => LARGER[1 + at % 15],
         _ => 990 + (at as u64 * 7) % 11,
     };
     triples.iter().enumerate().map(|(at, triple)| (*triple, ann(at))).collect()
@@ -348,7 +350,7 @@ fn measure_processes(lines: usize, entries: usize) {
 
 fn main() {
     println!("table  kind  rows  closed  rounds   drawn   proved, us    plain, us    ratio");
-    for kind in 1..=4 {
+    for kind in [1, 3, 4, 5] {
         measure("chain", kind, &chain(44));
         measure("types", kind, &types(190));
         measure("web", kind, &web(120));
