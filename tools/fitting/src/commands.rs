@@ -246,7 +246,7 @@ impl Bench<'_> {
         self.print(&bytes)?;
         for row in &left_out {
             let words = terms(&text.names, row).ok_or_else(strange_term)?.join(" ");
-            writeln!(self.err, "left out, a quoted text is no subject in N-Triples: {words}")?;
+            writeln!(self.err, "left out, N-Triples cannot say it: {words}")?;
         }
         Ok(left_out.is_empty())
     }

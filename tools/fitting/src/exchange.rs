@@ -12,7 +12,7 @@ use crate::refusal::{self, Refused};
 use crate::slips;
 use crate::statement::{self, Cursor, When};
 use crate::words::{words, Placed, Word};
-use crate::{Fault, Faults};
+use crate::{value, Fault, Faults};
 
 /// The forms besides a text.
 #[derive(Clone, Copy, Debug, PartialEq, Eq)]
@@ -185,8 +185,10 @@ fn one_word(cell: &str) -> String {
 /// Rows as a text, in the order of the names.
 fn text_of(kind: Kind, names: &Names, rows: &[Row]) -> Result<String, String> {
     let mut ordered = names.in_order();
-    let mut again =
-        |term: u16| names.kept(term).and_then(|(sort, text)| ordered.term(sort, text).ok());
+    let mut again = |term: u16| match value::of(term) {
+        Some(_) => Some(term),
+        None => names.kept(term).and_then(|(sort, text)| ordered.term(sort, text).ok()),
+    };
     let mut moved = Vec::new();
     for Row { triple, value } in rows {
         let [Some(subj), Some(pred), Some(obj)] = triple.map(&mut again) else {
@@ -230,9 +232,12 @@ pub fn export_list(
     rows: &[Row],
     base: &str,
 ) -> Result<(Vec<u8>, Vec<Row>), String> {
-    let is_quoted = |row: &&Row| Sort::of(row.triple[0]) == Some(Sort::Literal);
-    let (quoted, plain): (Vec<&Row>, Vec<&Row>) = rows.iter().partition(is_quoted);
+    let is_unsaid = |row: &&Row| {
+        let has_value = row.triple.iter().any(|term| value::of(*term).is_some());
+        has_value || Sort::of(row.triple[0]) == Some(Sort::Literal)
+    };
+    let (unsaid, plain): (Vec<&Row>, Vec<&Row>) = rows.iter().partition(is_unsaid);
     let plain: Vec<Row> = plain.into_iter().copied().collect();
     let bytes = ntriples::written(calls, kind.number(), names, &plain, base)?;
-    Ok((bytes, quoted.into_iter().copied().collect()))
+    Ok((bytes, unsaid.into_iter().copied().collect()))
 }

@@ -36,6 +36,7 @@ pub mod slips;
 pub mod statement;
 pub mod text;
 pub mod usage;
+pub mod value;
 pub mod words;
 
 /// What is wrong, in plain words, and at which line of the text (from 1).

@@ -4,7 +4,7 @@ use crate::encoding;
 use crate::input::Source;
 use crate::names::{Names, FIVE_WORDS};
 use crate::words::{words, Word};
-use crate::{Fault, Faults};
+use crate::{value, Fault, Faults};
 use std::collections::HashMap;
 
 /// One line each: number and text.
@@ -78,6 +78,9 @@ impl List {
         if let Some(word) = FIVE_WORDS.get(usize::from(term)) {
             return word.to_string();
         }
+        if let Some(value) = value::of(term) {
+            return value::written(value);
+        }
         if let Some(text) = self.0.get(&term) {
             return text.clone();
         }
@@ -108,7 +111,8 @@ mod tests {
     fn a_list_gives_texts_and_numbers_stand_for_the_rest() {
         let list = list("5 lamp-7\n\n16384 _b\n32768 \"van 31\"\n6 <m:a> # a maker's\n7 name-8\n")
             .unwrap();
-        let texts = [2, 5, 6, 16_384, 32_768, 8, 9, 16_385, 32_769].map(|term| list.text(term));
+        let terms = [2, 5, 6, 16_384, 32_768, 8, 9, 16_385, 32_769, 0xC1F4];
+        let texts = terms.map(|term| list.text(term));
         let wanted = [
             "is",
             "lamp-7",
@@ -119,6 +123,7 @@ mod tests {
             "name-9",
             "_blank-16385",
             "\"text 32769\"",
+            "500 mA",
         ];
         assert_eq!(texts, wanted);
     }

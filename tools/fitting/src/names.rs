@@ -1,7 +1,7 @@
 //! Texts to terms and back. The five words are names 0 to 4; other names are numbered from 5,
 //! blanks and literals each from 0: as they are first met, or in the order of the names.
 
-use crate::{literal, order, words};
+use crate::{literal, order, value, words};
 use std::collections::HashMap;
 
 /// The text's words for sp, sc, type, dom and range, in the order of their numbers.
@@ -19,7 +19,7 @@ pub const FIVE_IRIS: [&str; 5] = [
 /// Terms of one sort.
 const MOST: usize = 1 << 14;
 
-/// A term's top two bits.
+/// A term's top two bits; where both are set it is a value and has no text to be kept.
 #[derive(Clone, Copy, Debug, PartialEq, Eq, Hash)]
 pub enum Sort {
     Name,
@@ -95,6 +95,9 @@ impl Names {
 
     /// The term as the text writes it, if the text has it.
     pub fn text(&self, term: u16) -> Option<String> {
+        if let Some(value) = value::of(term) {
+            return Some(value::written(value));
+        }
         let (sort, text) = self.kept(term)?;
         Some(sort.written(text))
     }
@@ -155,7 +158,8 @@ pub fn iri_of(text: &str) -> Option<&str> {
 
 /// A plain word that may be a name: no word of the text form, and no number.
 pub fn is_name(text: &str) -> bool {
-    words::is_plain(text) && crate::statement::judge_name(text).is_ok()
+    let is_value = !matches!(value::read(text), Ok(None));
+    words::is_plain(text) && !is_value && crate::statement::judge_name(text).is_ok()
 }
 
 #[cfg(test)]
@@ -193,6 +197,8 @@ mod tests {
             assert!(is_name(name), "{name}");
         }
         for other in [
+            "500mA",
+            "20000mA",
             "",
             "a b",
             "a,b",

@@ -16,7 +16,7 @@ pub fn compare(left: &str, right: &str) -> Ordering {
     pieces(left).cmp(&pieces(right)).then_with(|| left.cmp(right))
 }
 
-/// Terms as a text writes them: the five words first, then names, blanks and quoted texts.
+/// Terms as a text writes them: the five words first, then names, blanks, quoted texts and values.
 pub fn compare_terms(left: &str, right: &str) -> Ordering {
     rank(left).cmp(&rank(right)).then_with(|| compare(left, right))
 }
@@ -25,6 +25,7 @@ fn rank(term: &str) -> usize {
     let five = FIVE_WORDS.iter().position(|word| *word == term);
     five.unwrap_or(match term.chars().next() {
         Some('"') => FIVE_WORDS.len() + 2,
+        Some('0'..='9') if term.ends_with(" mA") => FIVE_WORDS.len() + 3,
         Some('_') => FIVE_WORDS.len() + 1,
         _ => FIVE_WORDS.len(),
     })
@@ -83,9 +84,9 @@ mod tests {
 
     #[test]
     fn terms_by_their_sort_first() {
-        let mut terms = ["\"a\"", "_a", "a", "to", "is", "<m:a>"];
+        let mut terms = ["500 mA", "\"a\"", "60 mA", "_a", "a", "to", "is", "<m:a>"];
         terms.sort_by(|left, right| compare_terms(left, right));
-        assert_eq!(terms, ["is", "to", "<m:a>", "a", "_a", "\"a\""]);
+        assert_eq!(terms, ["is", "to", "<m:a>", "a", "_a", "\"a\"", "60 mA", "500 mA"]);
     }
 
     #[test]

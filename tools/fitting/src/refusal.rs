@@ -24,7 +24,7 @@ pub fn words(number: u32) -> &'static str {
         5 => "base year",
         6 => "tag neither 1 nor 3 after the head",
         7 => "length not 14",
-        8 => "sort 3",
+        8 => "the term 65,535",
         9 => "predicate not a name",
         10 => "annotation illegal",
         11 => "lanes unequal or too long; answer lanes unfit; under 48 records lent",

@@ -2,9 +2,9 @@
 
 use crate::annotation::Kind;
 use crate::names::{Names, Sort, FIVE_WORDS};
-use crate::slips;
 use crate::words::{Placed, Word};
 use crate::Fault;
+use crate::{slips, value};
 
 /// Words that are never names, with those of `COMPARES`.
 const RESERVED: [&str; 7] = ["kind", "ask", "and", "or", "where", "during", "always"];
@@ -117,9 +117,10 @@ pub fn term(cursor: &mut Cursor, names: &mut Names, role: Role) -> Result<Slot, 
         None => Err(role.missing()),
         Some(Word::Variable(name)) => return Ok(Slot::Variable(name.clone())),
         Some(Word::Plain(text)) => judge_name(text)
-            .map_err(|wrong| wrong.words(role))
+            .map_err(|wrong| wrong.words(role, cursor.peek(0)))
             .and_then(|()| names.term(Sort::Name, text)),
         Some(Word::Iri(iri)) => names.iri(iri),
+        Some(Word::Value(value)) => Ok(value::term(*value)),
         Some(Word::Blank(text)) => names.term(Sort::Blank, text),
         Some(Word::Literal(text)) => names.term(Sort::Literal, text),
         Some(Word::Comma) if role != Role::Side => Err(slips::COMMA.to_string()),
@@ -136,10 +137,17 @@ pub enum NoName<'a> {
 }
 
 impl NoName<'_> {
-    fn words(self, role: Role) -> String {
+    fn words(self, role: Role, next: Option<&Word>) -> String {
+        let unit = next.and_then(|word| match word {
+            Word::Plain(unit) => Some(unit.as_str()),
+            _ => None,
+        });
         match self {
             NoName::Reserved(text) => role.misplaced(&format!("`{text}`")),
             NoName::Number(text) => {
+                if let Some(words) = value::meant(text, unit) {
+                    return words;
+                }
                 let misplaced = role.misplaced(&format!("`{text}`"));
                 format!("{misplaced} (a name that is a number is put in quotes: \"{text}\")")
             }

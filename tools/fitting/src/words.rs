@@ -1,7 +1,7 @@
 //! One line of text into words.
 
 use crate::letters::{is_odd_blank, is_unseen};
-use crate::literal;
+use crate::{literal, value};
 
 #[derive(Clone, Debug, PartialEq, Eq)]
 pub enum Word {
@@ -15,6 +15,8 @@ pub enum Word {
     Blank(String),
     /// `"12 volt"`, from its quote on, as N-Triples has it.
     Literal(String),
+    /// `500 mA`.
+    Value(u16),
     Comma,
     Open,
     Close,
@@ -40,6 +42,7 @@ impl Word {
             Word::Variable(text) => format!("`?{text}`"),
             Word::Blank(text) => format!("`_{text}`"),
             Word::Literal(text) => literal::written(text),
+            Word::Value(value) => value::written(*value),
             Word::Comma => "`,`".to_string(),
             Word::Open => "`(`".to_string(),
             Word::Close => "`)`".to_string(),
@@ -74,7 +77,10 @@ pub fn words(line: &str) -> Result<Vec<Word>, String> {
             '"' => quoted(rest)?,
             '<' => literal::read_iri(rest)
                 .and_then(|(iri, after)| Ok((Word::Iri(iri), ended(after, "`>`")?)))?,
-            _ => plain(rest)?,
+            _ => match value::read(rest)? {
+                Some((value, after)) => (Word::Value(value), after),
+                None => plain(rest)?,
+            },
         };
         found.push(word);
         rest = after.trim_start();
