@@ -1,15 +1,17 @@
-//! The kinds of annotation, and how a text writes their values: years and sheets as runs,
+//! The kinds of annotation, and how a text writes their values: years as runs, sheets by their names,
 //! degrees as one number. A gap between two runs is never filled.
+
+use crate::sheets::{self, Sheets};
 
 #[derive(Clone, Copy, Debug, PartialEq, Eq)]
 pub enum Kind {
     Years { base: u16 },
-    Sheets,
+    Sheets(Sheets),
     Degree,
     Strict,
 }
 
-/// Years or sheets in one annotation.
+/// Years in one annotation.
 const BITS: u32 = 64;
 
 /// For a word that looks like the second half of a name.
@@ -19,7 +21,7 @@ impl Kind {
     pub fn number(self) -> u8 {
         match self {
             Kind::Years { .. } => 1,
-            Kind::Sheets => 2,
+            Kind::Sheets(_) => 5,
             Kind::Degree => 3,
             Kind::Strict => 4,
         }
@@ -42,17 +44,17 @@ impl Kind {
     pub fn words(self) -> String {
         match self {
             Kind::Years { base } => format!("years from {base}"),
-            Kind::Sheets => "sheets".to_string(),
+            Kind::Sheets(sheets) => format!("sheets {}", sheets.names().join(", ")),
             Kind::Degree => "degree".to_string(),
             Kind::Strict => "strict".to_string(),
         }
     }
 
-    /// The kind of a number and a base year.
+    /// The kind of a number and a base year; sheets have no names in bytes.
     pub fn of(number: u8, base: u16) -> Option<Kind> {
         match number {
             1 => Some(Kind::Years { base }),
-            2 => Some(Kind::Sheets),
+            5 => Some(Kind::Sheets(Sheets::numbered())),
             3 => Some(Kind::Degree),
             4 => Some(Kind::Strict),
             _ => None,
@@ -63,7 +65,7 @@ impl Kind {
     pub fn one(self) -> &'static str {
         match self {
             Kind::Years { .. } => "year",
-            Kind::Sheets => "sheet",
+            Kind::Sheets(_) => "sheet",
             Kind::Degree | Kind::Strict => "degree",
         }
     }
@@ -72,7 +74,7 @@ impl Kind {
     pub fn example(self) -> &'static str {
         match self {
             Kind::Years { .. } => "years such as 2000-2002, 2005",
-            Kind::Sheets => "sheets such as 0, 3-5",
+            Kind::Sheets(_) => "sheets such as maker, or maker + importer",
             Kind::Degree | Kind::Strict => "a degree from 1 to 1000",
         }
     }
@@ -81,13 +83,13 @@ impl Kind {
     pub fn test(self) -> &'static str {
         match self {
             Kind::Years { .. } => "?when covers 2005-2006",
-            Kind::Sheets => "?when covers 3-5",
+            Kind::Sheets(_) => "?when covers maker + importer",
             Kind::Degree | Kind::Strict => "?degree >= 700",
         }
     }
 
     pub fn is_set(self) -> bool {
-        matches!(self, Kind::Years { .. } | Kind::Sheets)
+        matches!(self, Kind::Years { .. } | Kind::Sheets(_))
     }
 
     /// `always`.
@@ -120,15 +122,23 @@ impl Kind {
     /// What of a value of this kind another book's value does not have: years by years, whatever
     /// year each book begins with; a degree whole, if the two differ.
     pub fn only(self, value: u64, other: Kind, its_value: u64) -> Option<u64> {
-        let less = match self.is_set() {
-            true => value & !shifted(its_value, i32::from(other.base()) - i32::from(self.base())),
-            false => value * u64::from(value != its_value),
+        let less = match self {
+            Kind::Years { .. } => {
+                value & !shifted(its_value, i32::from(other.base()) - i32::from(self.base()))
+            }
+            Kind::Sheets(_) => sheets::smallest(value & !its_value)
+                .into_iter()
+                .fold(0, |bits, combination| bits | sheets::enough(combination)),
+            Kind::Degree | Kind::Strict => value * u64::from(value != its_value),
         };
         Some(less).filter(|less| *less != 0)
     }
 
-    /// The value of a list of runs, or of one degree.
+    /// The value of a list of runs or of sheets, or of one degree.
     pub fn value(self, items: &[&str]) -> Result<u64, String> {
+        if let Kind::Sheets(sheets) = self {
+            return sheets.value(items);
+        }
         if self.is_set() {
             return items.iter().try_fold(0, |bits, item| Ok(bits | self.run(item)?));
         }
@@ -183,6 +193,9 @@ impl Kind {
 
     /// The same with all years by their numbers.
     pub fn written_span(self, value: u64) -> String {
+        if let Kind::Sheets(sheets) = self {
+            return sheets.written(value);
+        }
         if !self.is_set() {
             return value.to_string();
         }
@@ -243,7 +256,6 @@ mod tests {
         assert_eq!(YEARS.value(&["2000-2063"]), Ok(YEARS.top()));
         assert_eq!(YEARS.written(YEARS.top()), "always");
         assert_eq!(YEARS.written(YEARS.top() >> 1), "2000-2062");
-        assert_eq!(Kind::Sheets.written(0b1101), "0, 2-3");
     }
 
     /// What is written is read back to the same value, whatever its bits.
@@ -255,11 +267,9 @@ mod tests {
                 .wrapping_mul(6_364_136_223_846_793_005)
                 .wrapping_add(1_442_695_040_888_963_407);
             let sparse = (value & value.rotate_left(21)) | 1;
-            for kind in [YEARS, Kind::Sheets] {
-                let written = kind.written(sparse);
-                let items: Vec<&str> = written.split(", ").collect();
-                assert_eq!(kind.value(&items), Ok(sparse), "{written}");
-            }
+            let written = YEARS.written(sparse);
+            let items: Vec<&str> = written.split(", ").collect();
+            assert_eq!(YEARS.value(&items), Ok(sparse), "{written}");
         }
     }
 

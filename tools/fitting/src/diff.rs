@@ -36,7 +36,11 @@ impl PartialOrd for Key {
 /// The lines in which two books differ: `-` holds by the first alone, `+` by the second alone. An
 /// error says why they cannot be compared.
 pub fn differences(left: &Holding, right: &Holding) -> Result<String, String> {
-    if left.kind.number() != right.kind.number() {
+    let is_same = match left.kind {
+        Kind::Sheets(_) => left.kind == right.kind,
+        _ => left.kind.number() == right.kind.number(),
+    };
+    if !is_same {
         let kinds = format!(
             "{} says `{}`, {} says `{}`",
             left.file,

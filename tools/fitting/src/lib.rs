@@ -32,6 +32,7 @@ pub mod program;
 pub mod proved;
 pub mod question;
 pub mod refusal;
+pub mod sheets;
 pub mod slips;
 pub mod statement;
 pub mod text;

@@ -43,6 +43,7 @@ pub fn words(number: u32) -> &'static str {
         24 => "looks used up: a look is due and none is left",
         26 => "line not N-Triples",
         27 => "names or text full",
+        28 => "annotation misses a larger combination",
         39 => "a row with a literal subject or a term without a text",
         _ => "a number that the document does not have",
     }
@@ -53,8 +54,8 @@ pub fn place_word(refused: Refused, refusal: Refusal) -> Option<&'static str> {
     match (refused, refusal.number) {
         // Reading's 12 is at its field, which is never the head; closing's has no place.
         (Refused::Book, 12) if refusal.place > 0 => Some("field"),
-        (Refused::Book, 1..=10) => Some("field"),
-        (Refused::Question, 8..=10 | 17..=20) => Some("field"),
+        (Refused::Book, 1..=10 | 28) => Some("field"),
+        (Refused::Question, 8..=10 | 17..=20 | 28) => Some("field"),
         (Refused::Question, 16) => Some("field or holder"),
         (Refused::Question, 21 | 22) => Some("ONLY field"),
         (Refused::List, 12 | 26 | 27) => Some("line"),
@@ -71,6 +72,7 @@ pub fn advice(refused: Refused, refusal: Refusal) -> Option<&'static str> {
         (Refused::Book, 5) => "the first year of a book is from 1900 to 2100",
         (Refused::Book | Refused::Question, 9) => "the relation is a name, not a quoted text or a blank",
         (_, 10) => "degrees are from 1 to 1000",
+        (_, 28) => "where some sheets are enough, so are more of them: the bytes leave out a larger combination",
         (Refused::Book, 12) if refusal.place > 0 => "there is room for 1,024 rows, and this line would be one more",
         (Refused::Book, 12) => "there is room for 1,024 rows, and more than that follow from this book: write a book for each maker, or fewer classes",
         (Refused::Book, 13) => "a book has room for 3,854 lines; the same line written twice counts twice",

@@ -121,6 +121,6 @@ mod tests {
         for items in [&["2000-2002", "2005"][..], &["2007-2005"], &["20O5"], &["light"]] {
             assert_eq!(judge_years(Kind::Years { base: 2000 }, items), Ok(()));
         }
-        assert_eq!(judge_years(Kind::Sheets, &["3-5"]), Ok(()));
+        assert_eq!(judge_years(Kind::Degree, &["2001-"]), Ok(()));
     }
 }

@@ -2,6 +2,7 @@
 
 use crate::annotation::Kind;
 use crate::names::{Names, Sort, FIVE_WORDS};
+use crate::sheets::Sheets;
 use crate::words::{Placed, Word};
 use crate::Fault;
 use crate::{slips, value};
@@ -203,7 +204,11 @@ pub fn when(cursor: &mut Cursor, kind: Kind) -> Result<Option<When>, Fault> {
         return Ok(Some(When::Variable(name.clone())));
     }
     let line = cursor.line();
-    let items = list(cursor)?;
+    let (items, side_by_side) = list(cursor)?;
+    if let (Kind::Sheets(_), Some((left, right))) = (kind, side_by_side) {
+        let between = "stands `+` if both are needed, a comma if either will do";
+        return Err(Fault::new(line, format!("between {left} and {right} {between}")));
+    }
     if items.is_empty() {
         let missing = format!("behind `during` stand {}, a ?variable or `always`", kind.example());
         return if during { Err(cursor.fault(missing)) } else { Ok(None) };
@@ -224,20 +229,30 @@ fn judge_item(item: &str) -> Result<(), String> {
     }
 }
 
+/// The words of a list, and the first two that stand side by side with nothing between them.
+type List<'a> = (Vec<&'a str>, Option<(&'a str, &'a str)>);
+
 /// The words up to the end of a list; a comma stands between two of them or not.
-fn list<'a>(cursor: &mut Cursor<'a>) -> Result<Vec<&'a str>, Fault> {
-    let mut items = Vec::new();
+fn list<'a>(cursor: &mut Cursor<'a>) -> Result<List<'a>, Fault> {
+    let mut items: Vec<&str> = Vec::new();
+    let mut side_by_side = None;
+    let mut is_apart = true;
     while let Some(item) = list_item(cursor, 0) {
+        if let Some(last) = items.last().filter(|_| !is_apart) {
+            let plus = last.ends_with('+') || item.starts_with('+');
+            side_by_side = side_by_side.or((!plus).then_some((*last, item)));
+        }
         items.push(item);
         cursor.word();
-        if cursor.peek(0) == Some(&Word::Comma) {
+        is_apart = cursor.peek(0) == Some(&Word::Comma);
+        if is_apart {
             if list_item(cursor, 1).is_none() {
                 return Err(cursor.fault("something is missing behind the `,`"));
             }
             cursor.word();
         }
     }
-    Ok(items)
+    Ok((items, side_by_side))
 }
 
 fn list_item<'a>(cursor: &Cursor<'a>, ahead: usize) -> Option<&'a str> {
@@ -292,10 +307,13 @@ pub fn nothing_left(cursor: &Cursor) -> Result<(), Fault> {
 pub fn kind(cursor: &mut Cursor) -> Result<Kind, Fault> {
     let line = cursor.line();
     cursor.word();
-    let kinds = "the kinds are: years from 2000, sheets, degree, strict";
+    let kinds = "the kinds are: years from 2000, sheets maker, importer, degree, strict";
     let kind = match cursor.word() {
         Some(word) if word.is("years") => Kind::Years { base: first_year(cursor)? },
-        Some(word) if word.is("sheets") => Kind::Sheets,
+        Some(word) if word.is("sheets") => {
+            let names = list(cursor)?.0;
+            Kind::Sheets(Sheets::of(&names).map_err(|words| Fault::new(line, words))?)
+        }
         Some(word) if word.is("degree") => Kind::Degree,
         Some(word) if word.is("strict") => Kind::Strict,
         Some(word) => {

@@ -98,7 +98,8 @@ usage: fitting import FILE.nt --kind KIND --when WHEN [--base IRI]
 
 Prints a makers' list or a spreadsheet's table as a text.
 
-  --kind KIND   the book's kind: \"years from 2000\", sheets, degree, strict. A
+  --kind KIND   the book's kind: \"years from 2000\", degree, strict, \"sheets
+                maker, importer\". A
                 table says it in its first line, behind subject, relation, object
   --when WHEN   when the lines of the list hold: \"2001-2005, 2007\", always
   --base IRI    names that begin so are written without it (urn:fitting:)

@@ -57,7 +57,7 @@ fn what_is_wrong_in_a_makers_list() {
         "{}",
         outside.err
     );
-    let unsaid = import("import list.txt --kind sheets --when 3", "");
+    let unsaid = import("import list.txt --kind degree --when 3", "");
     assert!(
         unsaid.err.starts_with("say the form of the file") && unsaid.code == 2,
         "{}",
@@ -72,7 +72,7 @@ fn a_long_list_is_read_in_pieces() {
         format!("<http://maker.example/lists/2011/lamps/{number:060}> <m:p> _:b{number} .\n")
     };
     let file: String = (0..1500).map(line).collect();
-    let imported = import("import - --from nt --kind sheets --when 3", &file);
+    let imported = import("import - --from nt --kind degree --when 3", &file);
     assert_eq!((imported.code, imported.text().lines().count()), (0, 1501));
     let exported = command(
         "export t --to nt --when any --quiet",
@@ -214,7 +214,7 @@ fn what_is_wrong_in_a_table() {
         "table.csv:2: a cell's quote is opened and not closed",
     );
     wrong(&format!("{head}lamp,is,\",\",2001\n"), "table.csv:2: no comma is wanted here");
-    let other = import("import table.csv --kind sheets", &format!("{head}lamp,is,led,3\n"));
+    let other = import("import table.csv --kind degree", &format!("{head}lamp,is,led,3\n"));
     assert!(
         other.err.starts_with("table.csv:1: the table says `years from 2000`, and --kind another"),
         "{}",

@@ -149,8 +149,8 @@ fn at_least_is_for_degrees() {
         "ask ?x is led ?w where ?w >= 2005",
         "`>=` is for degrees; write ?when covers 2005-2006",
     );
-    let sheets = faults(b"kind sheets\nask ?x is led ?w where ?w >= 5\n");
-    assert_eq!(sheets, ["2: `>=` is for degrees; write ?when covers 3-5"]);
+    let sheets = faults(b"kind sheets maker\nask ?x is led ?w where ?w >= 5\n");
+    assert_eq!(sheets, ["2: `>=` is for degrees; write ?when covers maker + importer"]);
     let degree = faults(b"kind degree\nask ?x is led ?d where ?d > 5\n");
     assert_eq!(degree, ["2: a test is ?x = ?y, ?x != NAME, or ?degree >= 700"]);
 }
@@ -169,8 +169,18 @@ fn wrong_kinds() {
     one("kind years from soon\n", "1: the first year is missing or no year");
     one("kind years from +2000\n", "1: the first year is missing or no year");
     one("kind years from 70000\n", "1: the first year is missing or no year");
-    one("kind sheets from 3\n", "1: `from` is too much in this line");
-    one("kind sheets\nlamp is led 64\n", "2: sheet 64 is outside this book's sheets, 0 to 63");
+    one("kind sheets\n", "1: name the sheets, at most six: kind sheets maker, importer");
+    one("kind sheets a1, b1, a1\n", "1: the sheet `a1` is named twice");
+    one(
+        "kind sheets a, b, c, d, e, f, g\n",
+        "1: `g` is one sheet too many: a book has at most six",
+    );
+    one("kind sheets maker\nlamp is led 3\n", "2: `3` is no sheet of this book, which has: maker");
+    one(
+        "kind sheets maker, importer\nlamp is led maker importer\n",
+        "2: between maker and importer stands `+` if both are needed, a comma if either will do",
+    );
+    one("kind sheets maker\nlamp is led maker +\n", "2: on both sides of `+` stands a sheet");
     one(
         "kind degree\nlamp is led 0.7\n",
         "2: `0.7` is not a degree: degrees are whole numbers from 1 to 1000",

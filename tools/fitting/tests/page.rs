@@ -66,7 +66,7 @@ fn the_page_is_well_formed() {
     for text in [
         example("lamps.fit"),
         example("degrees.fit"),
-        "kind sheets\n".to_string(),
+        "kind sheets maker\n".to_string(),
         years("a is b 2000\nask ?x is c 2000\n"),
     ] {
         let page = page(&text);

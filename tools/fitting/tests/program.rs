@@ -108,10 +108,10 @@ fn fed(command: &mut Command, input: &[u8]) -> Output {
 #[test]
 fn a_text_on_standard_input() {
     for mut command in each(&["close", "-"]) {
-        let output = fed(&mut command, b"kind sheets\nlamp is led 3\n");
+        let output = fed(&mut command, b"kind degree\nlamp is led 3\n");
         assert_eq!(
             (output.status.code(), output.stdout.as_slice()),
-            (Some(0), &b"kind sheets\nlamp  is  led  3\n"[..])
+            (Some(0), &b"kind degree\nlamp  is  led  3\n"[..])
         );
     }
 }
@@ -121,7 +121,7 @@ fn a_text_on_standard_input() {
 #[test]
 fn output_that_finds_no_room_is_said() {
     let text = std::env::temp_dir().join(format!("fitting-{}.fit", std::process::id()));
-    std::fs::write(&text, "kind sheets\nlamp is led 3\n").unwrap();
+    std::fs::write(&text, "kind degree\nlamp is led 3\n").unwrap();
     let full = || std::fs::File::options().write(true).open("/dev/full").unwrap();
     for arguments in [
         ["book", text.to_str().unwrap()],
@@ -197,25 +197,25 @@ fn a_large_wrong_file_takes_little_memory() {
     let texts = [
         filled("", "\n"),
         filled("", "a\n"),
-        filled("kind sheets\n", "a\n"),
-        filled("kind sheets\n", "a b c 3\n"),
-        filled("kind sheets\n", "ask a b c 3\n"),
-        filled("kind sheets\nask (", "a "),
-        filled("kind sheets\nask (", "a\n"),
-        filled("kind sheets\n", "("),
-        format!("kind sheets\n{many_names}").into_bytes(),
-        format!("kind sheets\n{many_rows}").into_bytes(),
+        filled("kind degree\n", "a\n"),
+        filled("kind degree\n", "a b c 3\n"),
+        filled("kind degree\n", "ask a b c 3\n"),
+        filled("kind degree\nask (", "a "),
+        filled("kind degree\nask (", "a\n"),
+        filled("kind degree\n", "("),
+        format!("kind degree\n{many_names}").into_bytes(),
+        format!("kind degree\n{many_rows}").into_bytes(),
         vec![b'"'; most],
     ];
     for (at, text) in texts.iter().enumerate() {
         assert_little_memory(&format!("text {at}"), "check -", text);
     }
-    let list = "import - --from nt --kind sheets --when 3";
+    let list = "import - --from nt --kind degree --when 3";
     assert_little_memory("a list", list, &filled("", "<a> <b> <c> .\n"));
     let many_terms: String =
         (0..40_000).map(|number| format!("<{number}> <b> _:c{number} .\n")).collect();
     assert_little_memory("a list of names", list, many_terms.as_bytes());
-    let table = "subject,relation,object,sheets\n";
+    let table = "subject,relation,object,degree\n";
     assert_little_memory("a table", "import - --from csv", &filled(table, "a,b,c,3\n"));
     assert_little_memory("a table of cells", "import - --from csv", &filled("", ","));
     assert_little_memory("a table of lines", "import - --from csv", &filled(table, "a\n"));

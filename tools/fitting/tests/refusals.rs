@@ -32,12 +32,12 @@ fn number_2() {
     let words = "no head first (empty book included), length not 4, second head";
     let nothing = format!("t.fit: {says}\n    (refused 2, field at byte 0: {words})\n");
     assert_eq!(close("# nothing\n"), (nothing, false));
-    let second = "kind years from 2000\nlamp is led 2000\n\nkind sheets\nlamp is led 3\n";
+    let second = "kind years from 2000\nlamp is led 2000\n\nkind degree\nlamp is led 3\n";
     book(
         second,
         &[
             &format!("t.fit:4: {says}"),
-            "    kind sheets",
+            "    kind degree",
             &format!("    (refused 2, field at byte 24: {words})"),
         ],
     );
@@ -86,7 +86,7 @@ fn numbers_9_and_10() {
         "and ?x \"is\" led ?w",
         "(refused 9, field at byte 24: predicate not a name)",
     ];
-    question("sheets", "ask ?x is led ?w\nand ?x \"is\" led ?w", &nine);
+    question("degree", "ask ?x is led ?w\nand ?x \"is\" led ?w", &nine);
     let ten = [
         "t.fit:3: degrees are from 1 to 1000",
         "ask ?x is led 0",
@@ -137,11 +137,11 @@ fn number_13() {
 fn number_19() {
     let advice = "a question has at most 16 variables for names and 8 that say when";
     let terms = (0..9).map(|number| format!("?x{number} near ?y{number} ?w")).collect::<Vec<_>>();
-    question("sheets", &format!("ask {}", terms.join(" and ")), &[&format!("t.fit:3: {advice}")]);
+    question("degree", &format!("ask {}", terms.join(" and ")), &[&format!("t.fit:3: {advice}")]);
     let anns = (0..9).map(|number| format!("?x is led ?w{number}")).collect::<Vec<_>>();
     let nineteen = "(refused 19, field at byte 192: variable number too large)";
     question(
-        "sheets",
+        "degree",
         &format!("ask {}", anns.join("\nand ")),
         &[&format!("t.fit:11: {advice}"), "and ?x is led ?w8", nineteen],
     );
@@ -153,8 +153,8 @@ fn number_20() {
     let counted = advice(Refused::Question, Refusal { number: 20, place: 384 }).unwrap();
     assert!(counted.contains("each `and` or `or` between them, and each test"), "{counted}");
     let twenty = "(refused 20, field at byte 384: a 33rd part)";
-    question("sheets", &parts(17), &[&format!("t.fit:19: {counted}"), "and ?x is led ?w", twenty]);
-    let (_, done) = ask(&format!("kind sheets\nlamp is led 1\n{} where ?x = lamp\n", parts(16)));
+    question("degree", &parts(17), &[&format!("t.fit:19: {counted}"), "and ?x is led ?w", twenty]);
+    let (_, done) = ask(&format!("kind degree\nlamp is led 1\n{} where ?x = lamp\n", parts(16)));
     assert!(done, "32 parts");
 }
 
@@ -163,20 +163,20 @@ fn numbers_21_and_22() {
     let bound = advice(Refused::Question, Refusal { number: 21, place: 0 }).unwrap();
     let place = format!("t.fit:4: {bound}");
     let number = "(refused 21, ONLY field at byte 0: test names a variable not surely bound by its own part)";
-    question("sheets", "ask ?x is led ?w\nwhere ?y = lamp", &[&place, "where ?y = lamp", number]);
-    question("sheets", "ask ?x is led ?w or ?y is led ?w\nwhere ?v covers 3", &[&place]);
+    question("degree", "ask ?x is led ?w\nwhere ?y = lamp", &[&place, "where ?y = lamp", number]);
+    question("degree", "ask ?x is led ?w or ?y is led ?w\nwhere ?v covers 3", &[&place]);
     let instead = advice(Refused::Question, Refusal { number: 22, place: 24 }).unwrap();
     assert!(instead.ends_with("or use another variable there"), "{instead}");
     let outside = "ask ?x is led ?w and\n(?x is led ?w where ?w covers 3)";
     let words = "test's annotation variable also stands in a TRIPLE outside that part";
     let number = format!("(refused 22, ONLY field at byte 24: {words})");
     question(
-        "sheets",
+        "degree",
         outside,
         &[&format!("t.fit:4: {instead}"), "(?x is led ?w where ?w covers 3)", &number],
     );
     let at_the_end = "ask ?x is led ?w and\n?x is led ?w where ?w covers 3\n";
-    assert!(ask(&format!("kind sheets\nlamp is led always\n{at_the_end}")).1);
+    assert!(ask(&format!("kind degree\nlamp is led always\n{at_the_end}")).1);
 }
 
 /// Every number of the document has its words.

@@ -36,7 +36,9 @@ fn term(dice: &mut Dice, asks: bool) -> &'static str {
 fn when(dice: &mut Dice, kind: &str) -> &'static str {
     match kind {
         "years from 2000" => dice.one(&["2000-2002, 2005-2007", "2063", "always", "2003"]),
-        "sheets" => dice.one(&["0", "3-5 63", "always"]),
+        "sheets maker, importer" => {
+            dice.one(&["maker", "maker + importer", "maker, importer", "always"])
+        }
         _ => dice.one(&["1", "700", "1000", "always", "0", "1001"]),
     }
 }
@@ -68,7 +70,7 @@ fn group(dice: &mut Dice, kind: &str, depth: usize) -> String {
 
 /// Lines and questions, with a word lost or put in now and then.
 fn soup(dice: &mut Dice) -> String {
-    let kind = dice.one(&["years from 2000", "sheets", "degree", "strict"]);
+    let kind = dice.one(&["years from 2000", "sheets maker, importer", "degree", "strict"]);
     let mut lines = vec![format!("kind {kind}")];
     for _ in 0..dice.below(6) {
         lines.push(triple(dice, kind, false));
@@ -147,7 +149,7 @@ fn no_text_makes_a_command_fail() {
 fn no_bytes_make_a_command_fail() {
     let mut dice = Dice(42);
     let pieces: [&[u8]; 16] = [
-        b"kind sheets\n",
+        b"kind degree\n",
         b"lamp ",
         b"is ",
         b"\"",
@@ -160,7 +162,7 @@ fn no_bytes_make_a_command_fail() {
         b"_:b ",
         b".\n",
         b",",
-        b"subject,relation,object,sheets\n",
+        b"subject,relation,object,degree\n",
         b"\r",
         b"5 ",
     ];
@@ -171,7 +173,7 @@ fn no_bytes_make_a_command_fail() {
             "check t",
             "text t",
             "import t --from csv",
-            "import t --from nt --kind sheets --when 3",
+            "import t --from nt --kind degree --when 3",
         ] {
             let printed = command(words, &[&bytes]);
             assert!(printed.code == 0 || !printed.err.is_empty(), "{words}: {bytes:?}");

@@ -1,5 +1,6 @@
 //! A book as one HTML page to print or to mail: no script, and no file but itself.
 
+mod combinations;
 mod html;
 mod strip;
 
@@ -82,7 +83,9 @@ impl Page<'_> {
         let stated = rows.iter().filter(|row| self.stated(row) != 0).count();
         let kind = match self.asking.kind {
             Kind::Years { base } => format!("Years {base} to {}.", u32::from(base) + 63),
-            Kind::Sheets => "Sheets 0 to 63.".to_string(),
+            Kind::Sheets(sheets) => {
+                format!("A square for each sheet: {}.", escaped(&sheets.names().join(", ")))
+            }
             Kind::Degree => "Degrees from 1 to 1000; the smallest counts.".to_string(),
             Kind::Strict => "Degrees from 1 to 1000; what is lacking adds up.".to_string(),
         };

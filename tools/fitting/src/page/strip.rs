@@ -1,6 +1,7 @@
-//! When a line holds, as a picture: years and sheets as a strip on which a gap is seen as a gap,
-//! degrees as a bar.
+//! When a line holds, as a picture: years as a strip on which a gap is seen as a gap, degrees as a
+//! bar, sheets as combinations.
 
+use super::combinations;
 use super::html::escaped;
 use crate::annotation::{runs, Kind};
 use std::fmt::Write;
@@ -10,7 +11,7 @@ const LENGTH: u32 = 250;
 const ARROW: u32 = 8;
 const HEIGHT: u32 = 14;
 
-/// The last year or sheet of a book, counted from its first.
+/// The last year of a book, counted from its first.
 const LAST: u32 = 63;
 
 /// The years that strips show: from the book's first to the last at which something begins or ends.
@@ -45,6 +46,9 @@ impl Axis {
 
     /// The numbers over the strips.
     pub fn scale(self) -> String {
+        if matches!(self.kind, Kind::Sheets(_)) {
+            return String::new();
+        }
         let mut shown = format!(
             "<svg class=\"strip\" aria-hidden=\"true\" width=\"{LENGTH}\" height=\"12\" viewBox=\"0 0 {LENGTH} 12\">"
         );
@@ -63,6 +67,10 @@ impl Axis {
 
     /// The picture of a value: what the book's own lines say is full, what follows is hatched.
     pub fn strip(self, value: u64, stated: u64) -> String {
+        if let Kind::Sheets(sheets) = self.kind {
+            let class = |bits: u64| if bits & !stated == 0 { "stated" } else { "follows" };
+            return combinations::drawn(sheets, value, LENGTH, class);
+        }
         if self.kind.is_set() {
             return self.drawn(value, &[("stated", value & stated), ("follows", value & !stated)]);
         }
@@ -72,6 +80,9 @@ impl Axis {
 
     /// The picture of an answer.
     pub fn answer(self, value: u64) -> String {
+        if let Kind::Sheets(sheets) = self.kind {
+            return combinations::drawn(sheets, value, LENGTH, |_| "answer");
+        }
         match self.kind.is_set() {
             true => self.drawn(value, &[("answer", value)]),
             false => self.bar(value, &[("answer", 0, value)]),
