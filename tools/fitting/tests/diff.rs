@@ -53,6 +53,18 @@ fn degrees_and_kinds() {
     assert_eq!((refused.err.as_str(), refused.code), (words, 1));
 }
 
+/// Combinations that are enough by one book alone; books that name other sheets are not compared.
+#[test]
+fn sheets_are_compared_by_their_combinations() {
+    let head = "kind sheets maker, importer\n";
+    let (left, right) =
+        (format!("{head}a is b maker\n"), format!("{head}a is b maker + importer\n"));
+    let shown = "- holds by t.fit alone, + by u.fit alone\n-  a  is  b  maker\n";
+    assert_eq!(diff(&left, &right).text(), shown);
+    let other = diff(&left, "kind sheets importer, maker\na is b maker\n");
+    assert!(other.err.contains("books of two kinds cannot be compared"), "{}", other.err);
+}
+
 #[test]
 fn a_fault_says_which_book_it_is_in() {
     let printed = diff(&years("lamp is led 2000\n"), &years("lamp is led 1999\n"));

@@ -19,6 +19,15 @@ fn degrees_give_their_listing_and_answers() {
     assert_eq!(notes(&text), Vec::<String>::new());
 }
 
+/// A class from one sheet and a subclass line from another prove a line together.
+#[test]
+fn sheets_give_their_listing_and_answers() {
+    let text = example("sheets.fit");
+    assert_eq!(close(&text), (example("sheets.close.txt"), true));
+    assert_eq!(ask(&text), (example("sheets.ask.txt"), true));
+    assert_eq!(notes(&text), Vec::<String>::new());
+}
+
 /// Known for 2000 to 2002 and 2005 to 2007: no row and no answer has the years between.
 #[test]
 fn the_two_runs_of_the_example_stay_two() {
@@ -33,7 +42,7 @@ fn the_two_runs_of_the_example_stay_two() {
 /// A listing is a text of its own: closed again it is the same, with nothing that follows.
 #[test]
 fn a_listing_reads_back_as_a_closed_book() {
-    for name in ["lamps.fit", "degrees.fit"] {
+    for name in ["lamps.fit", "degrees.fit", "sheets.fit"] {
         let (listing, _) = close(&example(name));
         let without: Vec<&str> =
             listing.lines().map(|line| line.split("  #").next().unwrap().trim_end()).collect();

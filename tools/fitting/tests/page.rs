@@ -19,6 +19,8 @@ fn tags(page: &str) -> Vec<&str> {
 fn the_stored_page_of_the_example() {
     let printed = command("page lamps.fit", &[example("lamps.fit").as_bytes()]);
     assert_eq!(printed.text(), example("lamps.page.html"));
+    let printed = command("page sheets.fit", &[example("sheets.fit").as_bytes()]);
+    assert_eq!(printed.text(), example("sheets.page.html"));
     let printed = command("page degrees.fit", &[example("degrees.fit").as_bytes()]);
     assert_eq!(printed.text(), example("degrees.page.html"));
 }
