@@ -4,7 +4,7 @@ use crate::calls::{Calls, NameList, Refusal, Row, Table, MOST_NAMES, MOST_NAME_T
 use crate::letters::is_unseen;
 use crate::literal::is_in_iri;
 use crate::names::{iri_of, is_name, Names, Sort, FIVE_IRIS, FIVE_WORDS};
-use std::collections::{HashMap, HashSet};
+use std::collections::{BTreeSet, HashMap, HashSet};
 
 /// The front of a plain name's IRI, unless the caller says another.
 pub const BASE: &str = "urn:fitting:";
@@ -128,7 +128,7 @@ pub fn written(
     while !rest.is_empty() {
         let count = fitting_rows(&texts, rest);
         let (some, more) = rest.split_at(count);
-        let used: HashSet<u16> = some.iter().flat_map(|row| row.triple).collect();
+        let used: BTreeSet<u16> = some.iter().flat_map(|row| row.triple).collect();
         let list: NameList =
             used.iter().filter_map(|term| Some((*term, texts.get(term)?.clone()))).collect();
         let table = Table { kind, rows: some.to_vec() };
@@ -169,7 +169,7 @@ fn unwritten(names: &Names, rows: &[Row], refusal: Refusal) -> String {
 /// The texts of the rows' terms as N-Triples has them. An error is what to print: two names would
 /// become one.
 fn texts(names: &Names, rows: &[Row], base: &str) -> Result<HashMap<u16, String>, String> {
-    let terms: HashSet<u16> = rows.iter().flat_map(|row| row.triple).collect();
+    let terms: BTreeSet<u16> = rows.iter().flat_map(|row| row.triple).collect();
     let own = terms.into_iter().filter(|term| usize::from(*term) >= FIVE_WORDS.len());
     let kept: Vec<(u16, Sort, String)> = own
         .filter_map(|term| names.kept(term).map(|(sort, text)| (term, sort, text.to_string())))

@@ -150,7 +150,7 @@ fn a_makers_list_comes_back_as_it_went() {
     let twice = years("lamp is <urn:fitting:lamp> 2001\n");
     let refused = command("export t --to nt --when any --quiet", &[twice.as_bytes()]);
     assert!(
-        refused.err.contains("would be written as another name is, <urn:fitting:lamp>"),
+        refused.err.starts_with("`lamp` would be written as another name is, <urn:fitting:lamp>"),
         "{}",
         refused.err
     );

@@ -56,7 +56,7 @@ pub fn in_pieces(text: &str) -> String {
     }
     let mut from = 0;
     for at in 0..=pieces.len() {
-        if pieces.get(at).is_none_or(|letter| !is_mark(*letter)) {
+        if !pieces.get(at).is_some_and(|letter| is_mark(*letter)) {
             pieces[from..at].sort_unstable();
             from = at + 1;
         }

@@ -41,7 +41,7 @@ impl Axis {
     fn marks(self) -> impl Iterator<Item = u32> {
         let first = u32::from(self.kind.base());
         let step = if self.count > 30 { 10 } else { 5 };
-        (0..self.count).filter(move |year| (first + year).is_multiple_of(step))
+        (0..self.count).filter(move |year| (first + year) % step == 0)
     }
 
     /// The numbers over the strips.
