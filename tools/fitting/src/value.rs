@@ -28,7 +28,7 @@ pub fn read(rest: &str) -> Result<Option<(u16, &str)>, String> {
     let Some(after) = behind.trim_start_matches([' ', '\t']).strip_prefix("mA") else {
         return Ok(None);
     };
-    let ends = after.chars().next().is_none_or(|next| next.is_whitespace() || ",()".contains(next));
+    let ends = !after.starts_with(|next: char| !next.is_whitespace() && !",()".contains(next));
     if digits == 0 || !ends {
         return Ok(None);
     }
