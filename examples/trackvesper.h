@@ -20,7 +20,7 @@ extern "C" {
 #endif
 
 /* The version of the library that this header belongs to. */
-#define TRACKVESPER_VERSION "1.1.0"
+#define TRACKVESPER_VERSION "2.0.0"
 
 /* Sizes: the most that is ever looked at or needed. */
 enum {
