@@ -1,22 +1,9 @@
-//! Links the proved library that `rt staticlib trackvesper` writes at the top of the repository. It
-//! is made for x86-64: on another machine the program is built without it, and the tests go by the
-//! model.
-
-use std::env;
-use std::path::Path;
+//! Passes on whether the crate `trackvesper` links the proved library: on a machine other than
+//! x86-64 the program is built without it, and the tests go by the model.
 
 fn main() {
     println!("cargo:rustc-check-cfg=cfg(proved)");
-    let folder = format!("{}/../../target/staticlib", env::var("CARGO_MANIFEST_DIR").unwrap());
-    println!("cargo:rerun-if-changed={folder}/libtrackvesper.a");
-    if env::var("CARGO_CFG_TARGET_ARCH").as_deref() != Ok("x86_64") {
-        println!("cargo:warning=built without the proved library, which is made for x86-64 only");
-        return;
+    if std::env::var_os("DEP_TRACKVESPER_PROVED").is_some() {
+        println!("cargo:rustc-cfg=proved");
     }
-    if !Path::new(&folder).join("libtrackvesper.a").is_file() {
-        panic!("target/staticlib/libtrackvesper.a is not there: `make fitting`, at the top of the repository, makes it first");
-    }
-    println!("cargo:rustc-cfg=proved");
-    println!("cargo:rustc-link-search=native={folder}");
-    println!("cargo:rustc-link-lib=static=trackvesper");
 }

@@ -7,7 +7,6 @@
 pub mod annotation;
 pub mod answers;
 pub mod arguments;
-pub mod calls;
 pub mod columns;
 pub mod commands;
 pub mod csv;
@@ -28,8 +27,6 @@ pub mod ntriples;
 pub mod order;
 pub mod page;
 pub mod program;
-#[cfg(proved)]
-pub mod proved;
 pub mod question;
 pub mod refusal;
 pub mod sheets;
@@ -39,6 +36,10 @@ pub mod text;
 pub mod usage;
 pub mod value;
 pub mod words;
+
+pub use trackvesper::calls;
+#[cfg(proved)]
+pub use trackvesper::proved;
 
 /// What is wrong, in plain words, and at which line of the text (from 1).
 #[derive(Clone, Debug, PartialEq, Eq)]

@@ -4,8 +4,8 @@
 //! length, a place for an answer as a pointer.
 
 use crate::calls::{
-    answers, Asked, Book, Calls, Lanes, NameLanes, NameList, Refusal, Table, ANNS, MOST_ANSWERS,
-    TERMS,
+    answers, Asked, Book, Calls, Lanes, NameLanes, NameList, Refusal, Row, Table, ANNS,
+    MOST_ANSWERS, ROOM, TERMS,
 };
 
 // A lane and its length side by side.
@@ -17,6 +17,32 @@ extern "C" {
         obj: *mut u16, obj_length: usize, ann: *mut u64, ann_length: usize,
         place: *mut usize, kind: *mut u8, base: *mut u16, count: *mut usize,
     ) -> u8;
+
+    fn trackvesper_check(
+        kind: u8,
+        subj: *const u16, subj_length: usize, pred: *const u16, pred_length: usize,
+        obj: *const u16, obj_length: usize, ann: *const u64, ann_length: usize,
+        count: usize, place: *mut usize,
+    ) -> u8;
+
+    fn trackvesper_add(
+        kind: u8,
+        subj: *mut u16, subj_length: usize, pred: *mut u16, pred_length: usize,
+        obj: *mut u16, obj_length: usize, ann: *mut u64, ann_length: usize,
+        count: *mut usize, s: u16, p: u16, o: u16, a: u64, place: *mut usize,
+    ) -> u8;
+
+    fn trackvesper_write(
+        kind: u8, base: u16,
+        subj: *const u16, subj_length: usize, pred: *const u16, pred_length: usize,
+        obj: *const u16, obj_length: usize, ann: *const u64, ann_length: usize,
+        count: usize, out: *mut u8, out_length: usize,
+        place: *mut usize, length: *mut usize,
+    ) -> u8;
+
+    fn trackvesper_close_book(
+        book: *const u8, book_length: usize, out: *mut u8, out_length: usize,
+    ) -> u64;
 
     fn trackvesper_close(
         kind: u8,
@@ -71,6 +97,79 @@ fn unpacked(word: u64) -> Result<usize, Refusal> {
     match (word >> 32) as u32 {
         0 => Ok(word as usize),
         number => Err(Refusal { number, place: word as u32 as usize }),
+    }
+}
+
+/// What a book of so many rows takes: a head of 7 bytes, and 17 for each row.
+const fn book_size(rows: usize) -> usize {
+    7 + 17 * rows
+}
+
+/// Calls beside those that a text form needs.
+#[rustfmt::skip]
+impl Proved {
+    /// Checks a table: whether its kind is one, and its rows are legal and ascend.
+    pub fn check(&self, table: &Table) -> Result<(), Refusal> {
+        let lanes = Lanes::of(&table.rows);
+        let mut place = 0;
+        // SAFETY: the slices are live for the call, which only reads them.
+        let number = unsafe {
+            trackvesper_check(
+                table.kind,
+                lanes.subj.as_ptr(), lanes.subj.len(), lanes.pred.as_ptr(), lanes.pred.len(),
+                lanes.obj.as_ptr(), lanes.obj.len(), lanes.ann.as_ptr(), lanes.ann.len(),
+                table.rows.len(), &mut place,
+            )
+        };
+        refusal(number, place)
+    }
+
+    /// The table with a row added: joined where its triple is there, else put in.
+    pub fn add(&self, table: &Table, row: Row) -> Result<Table, Refusal> {
+        let mut lanes = Lanes::of(&table.rows);
+        let ([s, p, o], a) = (row.triple, row.value);
+        let (mut count, mut place) = (table.rows.len(), 0);
+        // SAFETY: the slices are live for the call, borrowed for it alone, and none overlap.
+        let number = unsafe {
+            trackvesper_add(
+                table.kind,
+                lanes.subj.as_mut_ptr(), lanes.subj.len(), lanes.pred.as_mut_ptr(), lanes.pred.len(),
+                lanes.obj.as_mut_ptr(), lanes.obj.len(), lanes.ann.as_mut_ptr(), lanes.ann.len(),
+                &mut count, s, p, o, a, &mut place,
+            )
+        };
+        refusal(number, place)?;
+        Ok(Table { kind: table.kind, rows: lanes.rows(count) })
+    }
+
+    /// The bytes of a book.
+    pub fn write(&self, book: &Book) -> Result<Vec<u8>, Refusal> {
+        let lanes = Lanes::of(&book.table.rows);
+        let mut out = vec![0; book_size(ROOM)];
+        let (mut place, mut length) = (0, 0);
+        // SAFETY: the slices are live for the call, the output borrowed for it alone, and none overlap.
+        let number = unsafe {
+            trackvesper_write(
+                book.table.kind, book.base,
+                lanes.subj.as_ptr(), lanes.subj.len(), lanes.pred.as_ptr(), lanes.pred.len(),
+                lanes.obj.as_ptr(), lanes.obj.len(), lanes.ann.as_ptr(), lanes.ann.len(),
+                book.table.rows.len(), out.as_mut_ptr(), out.len(), &mut place, &mut length,
+            )
+        };
+        refusal(number, place)?;
+        out.truncate(length);
+        Ok(out)
+    }
+
+    /// The bytes of a book with what follows from it.
+    pub fn close_book(&self, book: &[u8]) -> Result<Vec<u8>, Refusal> {
+        let mut out = vec![0; book_size(ROOM)];
+        // SAFETY: as above.
+        let word = unsafe {
+            trackvesper_close_book(book.as_ptr(), book.len(), out.as_mut_ptr(), out.len())
+        };
+        out.truncate(unpacked(word)?);
+        Ok(out)
     }
 }
 
