@@ -94,7 +94,7 @@ fn whole() -> Vec<Question> {
         ("EITHER of two ONLY", 1, forked(), 0, 0),
         ("32 parts, 48 steps", 1, longest(), 0, 0),
         ("4: kind 0", 0, lamp(0, 0), 4, 0),
-        ("4: kind 5, before 16", 5, vec![], 4, 0),
+        ("4: kind 2, before 16", 2, vec![], 4, 0),
     ]
 }
 

@@ -163,7 +163,7 @@ fn every_illegal_step_is_23_at_its_number() {
 /// "Running: 4, table, answer lanes, 23": each is taken away in turn.
 #[test]
 fn a_run_is_refused_in_the_documents_order() {
-    let mut running = Running { kind: 5, count: 4, ..p1_closed(vec![], 9) };
+    let mut running = Running { kind: 2, count: 4, ..p1_closed(vec![], 9) };
     running.terms.push(7);
     assert_eq!(ran(&running).0.number, 4);
     running.kind = 1;
