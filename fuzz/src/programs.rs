@@ -133,7 +133,7 @@ fn counter_form(input: &[u8], output: &[u8]) -> Result<(), Fault> {
 fn answer(line: &str) -> Result<(), Fault> {
     let numbers = numbers(line)?;
     must(numbers.len() == 24, || format!("not 24 numbers: {line}"))?;
-    must(numbers[..16].iter().all(|term| *term < 49_152 || *term == 65_535), || {
+    must(numbers[..16].iter().all(|term| *term <= 65_535), || {
         format!("not terms: {line}")
     })
 }

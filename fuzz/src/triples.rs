@@ -248,7 +248,7 @@ pub fn judge_writing(calls: Calls, input: &[u8]) -> Result<(), Fault> {
         number => {
             must(WRITE_REFUSALS.contains(&number), || format!("no such refusal: {}", said()))?;
             let place = answer as u32 as usize;
-            let at_row = [8, 9, 10, 15, 39].contains(&number) && place < *count;
+            let at_row = [8, 9, 10, 15, 28, 39].contains(&number) && place < *count;
             must(at_row || place == 0, || format!("not at a row: {}", said()))?;
             must(out_now == *out, || format!("refused, and output changed: {}", said()))?;
         }

@@ -240,7 +240,7 @@ fn the_form_is_judged_without_the_model() {
     for text in [
         "",
         "closed 1 2000 1\n",
-        "closed 5 0 0\n",
+        "closed 2 0 0\n",
         "closed 1 1899 0\n",
         "refused 11 0\n",
         "refused 1 20\n",
@@ -250,7 +250,8 @@ fn the_form_is_judged_without_the_model() {
         "refused 1 0\nrefused 1 0\n",
         "closed 3 0 2\n10 2 11 5\n10 2 11 5\n",
         "closed 3 0 1\n10 2 11 1001\n",
-        "closed 3 0 1\n10 2 49152 5\n",
+        "closed 3 0 1\n10 49152 11 5\n",
+        "closed 5 0 1\n10 2 11 2\n",
     ] {
         assert!(closing(&input, text.as_bytes()).is_err(), "{text:?}");
     }
