@@ -138,13 +138,13 @@ trackvesper_compiled trackvesper_compile(uint8_t kind, const uint8_t *question, 
                                          trackvesper_step *records, size_t records_length);
 
 /* Runs the first steps of the records over a table, with some looks allowed. Answer i is terms[16 * i] to terms[16 * i + 15] and
- * anns[8 * i] to anns[8 * i + 7]; the lanes are 16n and 8n long, n up to 256. Less than 40 KB of stack. */
+ * anns[8 * i] to anns[8 * i + 7]; the lanes are 16n and 8n long, n up to 256. Less than 128 KB of stack: it goes as deep as there are steps. */
 trackvesper_ran trackvesper_run(uint8_t kind, const uint16_t *subj, size_t subj_length, const uint16_t *pred, size_t pred_length,
                                 const uint16_t *obj, size_t obj_length, const uint64_t *ann, size_t ann_length, size_t count,
                                 const trackvesper_step *records, size_t records_length, size_t steps, uint32_t allowed,
                                 uint16_t *terms, size_t terms_length, uint64_t *anns, size_t anns_length);
 
-/* Compiles a question and runs it, with records of its own. Less than 48 KB of stack. */
+/* Compiles a question and runs it, with records of its own. Less than 128 KB of stack, as running. */
 uint8_t trackvesper_ask(uint8_t kind, const uint16_t *subj, size_t subj_length, const uint16_t *pred, size_t pred_length,
                         const uint16_t *obj, size_t obj_length, const uint64_t *ann, size_t ann_length, size_t count,
                         const uint8_t *question, size_t question_length, uint32_t allowed,
