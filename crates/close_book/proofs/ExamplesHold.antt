@@ -1,5 +1,5 @@
 -- The document's listing holds, from its 41 bytes; so do the refusals for less room, of a cut book, of no book and of one that is too long. Assumes nothing.
-use mathlib.Core.Path.{_≡_, refl, _∙_}
+use mathlib.Core.Path.{_≡_, refl, ap, _∙_}
 use mathlib.Core.List.{List, [], _∷_}
 use Prim.Native.Nat.{ℕ, _≤_, _<_}
 use native.Mathlib.Omega.{arith}
@@ -12,6 +12,7 @@ use Rattle.table.specs.Rows.{Row, row, Lanes, addRow}
 use Rattle.field.specs.Numbers.{twoAt, fourAt, eightAt}
 use Rattle.rhodf.specs.Rules.{Rule}
 use Rattle.rhodf.specs.Closure.{ClosureOf}
+use Rattle.rhodf.proofs.TablesAgree.{closures-equal}
 use Rattle.rhodf.proofs.ExamplesHold.{examples-hold}
 use Rattle.book.specs.Format.{rowIn}
 use Rattle.book.specs.Reading.{readAs, refused, fieldsFrom, readBook, reading}
@@ -33,6 +34,36 @@ module _ (l : Lanes) (b text : List ℕ) (p : Listed l b text) where
   refused-as : (number place : ℕ) → reading b l ≡ refused (verdict number place) → 0 < number → text ≡ refusedLine number place
   refused-as number place e h = (rw e at (p .unread)) h
 
+-- and that this is what it prints
+module _ (l : Lanes) (b : List ℕ) where
+  lists : (kind base : ℕ) (rows closed : List Row) → reading b l ≡ readAs kind base rows → ClosureOf kind Rule rows closed → length closed ≤ length (l .subj)
+      → Listed l b (closedListing kind base closed)
+  lists kind base rows closed e c q =
+      let same : (other : List Row) → ClosureOf kind Rule rows other → closed ≡ other = λ other o. closures-equal kind Rule rows closed other c o in
+      record {
+        unread = λ h. absurd (omega (arith, rw e at h));
+        no-room = λ z other o h. absurd (omega (arith, q, h, ap length (same other (rw e at o))));
+        closed = λ z other o h. rw (e, same other (rw e at o)) refl;
+      }
+
+  lists-full : (kind base : ℕ) (rows closed : List Row) → reading b l ≡ readAs kind base rows → ClosureOf kind Rule rows closed → length (l .subj) < length closed
+      → Listed l b (refusedLine 12 0)
+  lists-full kind base rows closed e c q =
+      let same : (other : List Row) → ClosureOf kind Rule rows other → closed ≡ other = λ other o. closures-equal kind Rule rows closed other c o in
+      record {
+        unread = λ h. absurd (omega (arith, rw e at h));
+        no-room = λ z other o h. refl;
+        closed = λ z other o h. absurd (omega (arith, q, h, ap length (same other (rw e at o))));
+      }
+
+  lists-refused : (number place : ℕ) → reading b l ≡ refused (verdict number place) → 0 < number → Listed l b (refusedLine number place)
+  lists-refused number place e h =
+      record {
+        unread = λ _. rw e refl;
+        no-room = λ z other o q. absurd (omega (arith, h, rw e at z));
+        closed = λ z other o q. absurd (omega (arith, h, rw e at z));
+      }
+
 abbrev p1Rows : List Row
 p1Rows = row 10 2 11 120 ∷ row 11 1 12 2016 ∷ []
 
@@ -48,7 +79,11 @@ unfolding bytesOf line decimal decimalIn tab each
 p1-text = refl
 
 pub p1-listed : P1Listed
-p1-listed text p = listed-as (buffersOf 1024) p1Book text p 1 2000 p1Rows p1Closed p1-read (examples-hold .0) (omega arith) ∙ p1-text
+p1-listed =
+    let there = lists (buffersOf 1024) p1Book 1 2000 p1Rows p1Closed p1-read (examples-hold .0) (omega arith) in (
+      rw p1-text at there,
+      λ text p. listed-as (buffersOf 1024) p1Book text p 1 2000 p1Rows p1Closed p1-read (examples-hold .0) (omega arith) ∙ p1-text,
+    )
 
 p1-read-in-two : reading p1Book (buffersOf 2) ≡ readAs 1 2000 p1Rows
 unfolding first readBook fieldsFrom rowIn twoAt fourAt eightAt algebra isKind addRow
@@ -56,7 +91,10 @@ p1-read-in-two = refl
 
 pub p1-in-room-two : P1InRoomTwo
 unfolding bytesOf line decimal decimalIn tab each
-p1-in-room-two text p = full-as (buffersOf 2) p1Book text p 1 2000 p1Rows p1Closed p1-read-in-two (examples-hold .0) (omega arith)
+p1-in-room-two = (
+  lists-full (buffersOf 2) p1Book 1 2000 p1Rows p1Closed p1-read-in-two (examples-hold .0) (omega arith),
+  λ text p. full-as (buffersOf 2) p1Book text p 1 2000 p1Rows p1Closed p1-read-in-two (examples-hold .0) (omega arith),
+)
 
 cut-read : reading (take 40 p1Book) (buffersOf 1024) ≡ refused (verdict 1 24)
 unfolding first readBook fieldsFrom rowIn twoAt fourAt eightAt algebra isKind addRow
@@ -64,7 +102,10 @@ cut-read = refl
 
 pub p1-cut : P1Cut
 unfolding bytesOf line decimal decimalIn tab each
-p1-cut text p = refused-as (buffersOf 1024) (take 40 p1Book) text p 1 24 cut-read (omega arith)
+p1-cut = (
+  lists-refused (buffersOf 1024) (take 40 p1Book) 1 24 cut-read (omega arith),
+  λ text p. refused-as (buffersOf 1024) (take 40 p1Book) text p 1 24 cut-read (omega arith),
+)
 
 none-read : reading [] (buffersOf 1024) ≡ refused (verdict 2 0)
 unfolding first readBook fieldsFrom rowIn twoAt fourAt eightAt algebra isKind addRow
@@ -72,7 +113,7 @@ none-read = refl
 
 pub no-book : NoBook
 unfolding bytesOf line decimal decimalIn tab each
-no-book text p = refused-as (buffersOf 1024) [] text p 2 0 none-read (omega arith)
+no-book = (lists-refused (buffersOf 1024) [] 2 0 none-read (omega arith), λ text p. refused-as (buffersOf 1024) [] text p 2 0 none-read (omega arith))
 
 long-read : (b : List ℕ) → 65535 < length b → reading b (buffersOf 1024) ≡ refused (verdict 13 0)
 unfolding first
@@ -80,4 +121,7 @@ long-read b h = rw (lt-ltb 65535 (length b) h) refl
 
 pub long-book : LongBook
 unfolding bytesOf line decimal decimalIn tab each
-long-book b h text p = refused-as (buffersOf 1024) b text p 13 0 (long-read b h) (omega arith)
+long-book b h = (
+  lists-refused (buffersOf 1024) b 13 0 (long-read b h) (omega arith),
+  λ text p. refused-as (buffersOf 1024) b text p 13 0 (long-read b h) (omega arith),
+)

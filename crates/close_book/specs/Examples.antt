@@ -13,9 +13,9 @@ use Rattle.close_book.specs.Listed.{Listed}
 abbrev pub buffersOf : ℕ → Lanes
 buffersOf n = lanes (replicate n 0) (replicate n 0) (replicate n 0) (replicate n 0)
 
--- with buffers of so many entries, the bytes b print as this and nothing else
+-- with buffers of so many entries, the bytes b print as this, and as nothing else
 abbrev pub PrintsIn : ℕ → List ℕ → String → Type 0
-PrintsIn n b s = (text : List ℕ) → Listed (buffersOf n) b text → text ≡ bytesOf s
+PrintsIn n b s = Listed (buffersOf n) b (bytesOf s) × ((text : List ℕ) → Listed (buffersOf n) b text → text ≡ bytesOf s)
 
 -- "The closing program keeps its rows in buffers of 1,024 entries"
 abbrev pub Prints : List ℕ → String → Type 0

@@ -9,9 +9,9 @@ use Rattle.printing.specs.Text.{bytesOf}
 use Rattle.printing.specs.Examples.{p1Book}
 use Rattle.counter.specs.Counted.{Counted, allLooks}
 
--- with so many looks allowed, the input prints as this and nothing else
+-- with so many looks allowed, the input prints as this, and as nothing else
 abbrev pub PrintsWith : ℕ → List ℕ → String → Type 0
-PrintsWith looks input s = (text : List ℕ) → Counted looks input text → text ≡ bytesOf s
+PrintsWith looks input s = Counted looks input (bytesOf s) × ((text : List ℕ) → Counted looks input text → text ≡ bytesOf s)
 
 abbrev pub Prints : List ℕ → String → Type 0
 Prints input s = PrintsWith allLooks input s
