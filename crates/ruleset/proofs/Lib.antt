@@ -1,0 +1,1 @@
+-- Nothing is said of rule sets by themselves; the proof of the refusal is in its folder.
