@@ -2,13 +2,13 @@
 use mathlib.Core.Path.{_≡_, refl, sym, ap, subst, _∙_}
 use mathlib.Core.Bool.{Bool, true, false, cond, _&&_}
 use mathlib.Core.List.{List, [], _∷_, _++_}
-use Prim.Native.Nat.{ℕ, zero, suc, _+_, _-_, _%_, _≤_, _<_}
-use native.Mathlib.Nat.{mod-lt}
+use Prim.Native.Nat.{ℕ, zero, suc, _+_, _-_, _*_, _/_, _%_, _≤_, _<_}
+use native.Mathlib.Nat.{mod-lt, div-add-mod', add-mul-mod-self-left}
 use native.Mathlib.Numerals.{add-one}
 use native.Mathlib.Omega.{arith}
 use lib.Dec.{eqb}
-use lib.ListN.{length, getD, set, drop, replicate, drop-of-length-le, length-set, length-append, length-replicate, getD-replicate, List·getD-append}
-use lib.Seq.{slice, drop-cons, getD-append-seam, getD-set-same, getD-set-other}
+use lib.ListN.{length, getD, set, take, drop, replicate, drop-of-length-le, length-set, length-append, length-replicate, getD-replicate, List·getD-append}
+use lib.Seq.{slice, length-take-le, getD-take, drop-cons, getD-append-seam, getD-set-same, getD-set-other}
 use borrow.Author.Tests.{eqb-true, eqb-false, eq-eqb, ne-eqb}
 use Rattle.ground.proofs.Tab.{tab-length, getD-tab}
 use Rattle.term.specs.Term.{sortOf}
@@ -16,34 +16,70 @@ use Rattle.names.specs.Names.{Entry, entry, NameLanes, startOf, entryAt,
 use Rattle.names.specs.Entering.{sameText, isOf, Lookup, none, number, lookup, known, countOf, nextOf, firstOf, Listing}
 use Rattle.names.specs.declared.find.Found.the-variants.{Number, Missing}
 use Rattle.names.specs.Finding.{foundOf, numberFor}
-use Rattle.names.specs.Hashed.{buckets, mixedBy, hashFrom, hashOf, hashAt, lastBelow, Hashed, lookupIs}
+use Rattle.names.specs.Hashed.{buckets, mixedBy, hashFrom, MixedIn, hashOf, hashAt, lastBelow, Hashed, lookupIs}
 use Rattle.names.proofs.Same.{both-true, same-is}
 use Rattle.names.proofs.Entries.{drop-tab, text-is}
 
 -- ---- the hash of a word
 
-pub record Mixing (word : List ℕ) (i h : ℕ) : Type 0 where
-  pub rest : hashFrom h (drop i word) ≡ hashFrom 0 word
-  pub small : h < 65536
+pub mix-start : (word : List ℕ) → MixedIn word 0 0
+mix-start word = record { within = omega arith; rest = refl; small = omega arith }
 
-pub mix-start : (word : List ℕ) → Mixing word 0 0
-mix-start word = record { rest = refl; small = omega arith }
-
-pub mix-next : (word : List ℕ) (i h x k : ℕ) → Mixing word i h → i < length word → x ≡ getD word i 0 → k ≡ mixedBy h x → k < 65536 → Mixing word (i + 1) k
+pub mix-next : (word : List ℕ) (i h x k : ℕ) → MixedIn word i h → i < length word → x ≡ getD word i 0 → k ≡ mixedBy h x → k < 65536 → MixedIn word (i + 1) k
 unfolding hashFrom
 mix-next word i h x k m q e f s =
     let d : drop i word ≡ getD word i 0 ∷ drop (suc i) word = drop-cons word i 0 q in
     let n : drop (i + 1) word ≡ drop (suc i) word = ap (λ (v : ℕ). drop v word) (add-one i) in
     record {
+      within = omega arith;
       rest = rw (n, f, e) (sym (ap (hashFrom h) d) ∙ m .rest);
       small = s;
     }
 
-pub mix-end : (word : List ℕ) (i h : ℕ) → Mixing word i h → length word ≤ i → h ≡ hashFrom 0 word
+mixed-small : (h x : ℕ) → mixedBy h x < 65536
+mixed-small h x = mod-lt (h * 33 + x) (omega arith)
+
+-- four bytes more
+pub mix-four : (word : List ℕ) (i h k : ℕ) → MixedIn word i h → i + 4 ≤ length word
+    → k ≡ mixedBy (mixedBy (mixedBy (mixedBy h (getD word i 0)) (getD word (i + 1) 0)) (getD word (i + 2) 0)) (getD word (i + 3) 0) → MixedIn word (i + 4) k
+mix-four word i h k m q e =
+    let one = mix-next word i h (getD word i 0) _ m (omega arith) refl refl (mixed-small _ _) in
+    let two = mix-next word (i + 1) _ (getD word (i + 1) 0) _ one (omega arith) refl refl (mixed-small _ _) in
+    let n : i + 1 + 1 ≡ i + 2 = omega arith in
+    let three = mix-next word (i + 2) _ (getD word (i + 2) 0) _ (rw n at two) (omega arith) refl refl (mixed-small _ _) in
+    let p : i + 2 + 1 ≡ i + 3 = omega arith in
+    let four = mix-next word (i + 3) _ (getD word (i + 3) 0) k (rw p at three) (omega arith) refl e (rw e (mixed-small _ _)) in
+    let r : i + 3 + 1 ≡ i + 4 = omega arith in
+    rw r at four
+
+-- of the first bytes of a word
+pub four-next : (word : List ℕ) (size i h k : ℕ) → size ≤ length word → MixedIn (take size word) i h → 4 ≤ size - i
+    → k ≡ mixedBy (mixedBy (mixedBy (mixedBy h (getD word i 0)) (getD word (i + 1) 0)) (getD word (i + 2) 0)) (getD word (i + 3) 0) → MixedIn (take size word) (i + 4) k
+four-next word size i h k fits m q e =
+    mix-four (take size word) i h k m (rw (length-take-le size word fits) (omega arith))
+    (rw (getD-take size word i 0 (omega arith), getD-take size word (i + 1) 0 (omega arith), getD-take size word (i + 2) 0 (omega arith), getD-take size word (i + 3) 0 (omega arith)) e)
+
+whole-mixed : (y x : ℕ) → mixedBy (y % 65536) x ≡ (y * 33 + x) % 65536
+whole-mixed y x =
+    let e : y * 33 + x ≡ (y % 65536 * 33 + x) + 65536 * (y / 65536 * 33) = omega (arith, div-add-mod' y 65536) in
+    sym (ap (λ (v : ℕ). v % 65536) e ∙ add-mul-mod-self-left (y % 65536 * 33 + x) 65536 (y / 65536 * 33))
+
+-- one sum mixes four bytes in: the fourth power of 33 is 6273 and 18 times 65536
+pub four-sum : (h a b c d : ℕ) → (h * 6273 + ((a * 35937 + b * 1089) + (c * 33 + d))) % 65536 ≡ mixedBy (mixedBy (mixedBy (mixedBy h a) b) c) d
+four-sum h a b c d =
+    let two : mixedBy (mixedBy h a) b ≡ ((h * 33 + a) * 33 + b) % 65536 = whole-mixed (h * 33 + a) b in
+    let three : mixedBy (mixedBy (mixedBy h a) b) c ≡ (((h * 33 + a) * 33 + b) * 33 + c) % 65536
+    = ap (λ (v : ℕ). mixedBy v c) two ∙ whole-mixed ((h * 33 + a) * 33 + b) c in
+    let four : mixedBy (mixedBy (mixedBy (mixedBy h a) b) c) d ≡ ((((h * 33 + a) * 33 + b) * 33 + c) * 33 + d) % 65536
+    = ap (λ (v : ℕ). mixedBy v d) three ∙ whole-mixed (((h * 33 + a) * 33 + b) * 33 + c) d in
+    let e : (((h * 33 + a) * 33 + b) * 33 + c) * 33 + d ≡ (h * 6273 + ((a * 35937 + b * 1089) + (c * 33 + d))) + 65536 * (h * 18) = omega arith in
+    sym (four ∙ ap (λ (v : ℕ). v % 65536) e ∙ add-mul-mod-self-left (h * 6273 + ((a * 35937 + b * 1089) + (c * 33 + d))) 65536 (h * 18))
+
+pub mix-end : (word : List ℕ) (i h : ℕ) → MixedIn word i h → length word ≤ i → h ≡ hashFrom 0 word
 unfolding hashFrom
 mix-end word i h m q = sym (ap (hashFrom h) (drop-of-length-le word {i = i} q)) ∙ m .rest
 
-pub hash-is : (word : List ℕ) (i h : ℕ) → Mixing word i h → length word ≤ i → (h % buckets ≡ hashOf word) × (h % buckets < buckets)
+pub hash-is : (word : List ℕ) (i h : ℕ) → MixedIn word i h → length word ≤ i → (h % buckets ≡ hashOf word) × (h % buckets < buckets)
 unfolding hashOf
 hash-is word i h m q = (ap (λ (x : ℕ). x % buckets) (mix-end word i h m q), mod-lt h (omega arith))
 

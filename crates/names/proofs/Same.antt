@@ -4,11 +4,12 @@ use mathlib.Core.Bool.{Bool, true, false, _&&_, false≢true}
 use mathlib.Core.List.{List, [], _∷_}
 use Prim.Native.Nat.{ℕ, _+_, _-_, _≤_, _<_}
 use native.Mathlib.Omega.{arith}
-use lib.Dec.{eqb}
+use lib.Dec.{eqb, ltb}
 use lib.ListN.{length, getD, take}
 use lib.Seq.{slice, length-slice, length-take-le, getD-take, getD-drop, ext-getD}
-use borrow.Author.Tests.{eqb-true, eqb-false, eq-eqb}
+use borrow.Author.Tests.{eqb-true, eqb-false, eq-eqb, ltb-true, ltb-false}
 use Rattle.names.specs.Entering.{sameText}
+use Rattle.names.specs.Finding.{SameIn, SameBehind}
 
 pub both-true : (t u : Bool) → t && u ≡ true → (t ≡ true) × (u ≡ true)
 both-true true u h = (refl, h)
@@ -63,6 +64,29 @@ module _ (text word : List ℕ) (from to size : ℕ) (rises : from ≤ to) (insi
       sym (is-same (slice from to text) (take size word)
       (ext-getD 0 (slice from to text) (take size word) (length-text ∙ s ∙ sym length-word)
       (λ k l. let m : k < to - from = rw length-text at l in byte-text k m ∙ h k (omega arith) ∙ sym (getD-take size word k 0 (omega arith)))))
+
+-- one byte more
+pub same-next : (text word : List ℕ) (from at i : ℕ) (same : Bool) → (same ≡ true → SameIn text from word at i) → same && eqb (getD text (from + i) 0) (getD word (at + i) 0) ≡ true
+    → SameIn text from word at (i + 1)
+same-next text word from at i same h e k l =
+    let both = both-true same (eqb (getD text (from + i) 0) (getD word (at + i) 0)) e in go (eqb k i) refl both
+  where
+    go : (t : Bool) → eqb k i ≡ t → (same ≡ true) × (eqb (getD text (from + i) 0) (getD word (at + i) 0) ≡ true) → getD text (from + k) 0 ≡ getD word (at + k) 0
+    go true q both = let f : k ≡ i = eqb-true k i q in rw f (eqb-true (getD text (from + i) 0) (getD word (at + i) 0) (both .1))
+    go false q both = let f = eqb-false k i q in h (both .0) k (omega arith)
+
+-- eight bytes before those that are the same are the same too
+pub eight-more : (text word : List ℕ) (from size i j : ℕ) → SameBehind text from word size i → j + 8 ≡ i → SameIn text (from + j) word j 8 → SameBehind text from word size j
+eight-more text word from size i j b s h = record { within = let w = b .within in omega arith; same = λ k l m. go k l m (ltb k i) refl }
+  where
+    go : (k : ℕ) → j ≤ k → k < size → (t : Bool) → ltb k i ≡ t → getD text (from + k) 0 ≡ getD word k 0
+    go k l m true q =
+        let n : k < i = ltb-true k i q in
+        let x : from + j + (k - j) ≡ from + k = omega arith in
+        let y : j + (k - j) ≡ k = omega arith in
+        let e : getD text (from + j + (k - j)) 0 ≡ getD word (j + (k - j)) 0 = h (k - j) (omega arith) in
+        sym (ap (λ (v : ℕ). getD text v 0) x) ∙ e ∙ ap (λ (v : ℕ). getD word v 0) y
+    go k l m false q = b .same k (ltb-false k i q) m
 
 -- from k = i on they are the same, and at i - 1 too
 pub more-same : (text word : List ℕ) (from i j size : ℕ) → j + 1 ≡ i → ((k : ℕ) → i ≤ k → k < size → getD text (from + k) 0 ≡ getD word k 0)

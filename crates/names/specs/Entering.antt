@@ -21,6 +21,9 @@ sameText (x ∷ xs) (y ∷ ys) = eqb x y && sameText xs ys
 abbrev pub isOf : ℕ → Entry → Bool
 isOf sort e = eqb (sortOf (e .number)) sort
 
+abbrev pub isTextOf : ℕ → List ℕ → Entry → Bool
+isTextOf sort word e = isOf sort e && sameText (e .text) word
+
 -- "a text of the same sort already listed has its number"
 pub data Lookup : Type 0 where
   none : Lookup
@@ -28,7 +31,7 @@ pub data Lookup : Type 0 where
 
 unfoldable pub lookup : List Entry → ℕ → List ℕ → Lookup
 lookup [] sort word = none
-lookup (e ∷ es) sort word = cond (isOf sort e && sameText (e .text) word) (number (e .number)) (lookup es sort word)
+lookup (e ∷ es) sort word = cond (isTextOf sort word e) (number (e .number)) (lookup es sort word)
 
 -- how many entries are of a sort
 unfoldable pub countOf : ℕ → List Entry → ℕ

@@ -13,6 +13,15 @@ use Rattle.names.specs.declared.find.Found.the-variants.{Number, Missing
 use Rattle.names.specs.Names.{Entry, NameLanes, lanesOf, startOf, textAt, entriesOf, textIn}
 use Rattle.names.specs.Entering.{Lookup, none, number, lookup, known, countOf, nextOf, hasRoom, Listing, entriesAfter, countAfter}
 
+-- so many bytes from two positions on are the same
+abbrev pub SameIn : List ℕ → ℕ → List ℕ → ℕ → ℕ → Type 0
+SameIn text from word at size = (k : ℕ) → k < size → getD text (from + k) 0 ≡ getD word (at + k) 0
+
+-- of the first bytes of a word those from one position on
+pub record SameBehind (text : List ℕ) (from : ℕ) (word : List ℕ) (size i : ℕ) : Type 0 where
+  pub within : i ≤ size
+  pub same : (k : ℕ) → i ≤ k → k < size → getD text (from + k) 0 ≡ getD word k 0
+
 abbrev pub foundOf : Lookup → ℕ → Found
 foundOf (number n) k = Number n
 foundOf none k = Missing k

@@ -1,13 +1,12 @@
 // Entries looked for by a hash of their texts, so that a file costs as much as it has bytes, however many names it has.
 ghost use mathlib.Core.Path.{_≡_};
-ghost use mathlib.Core.Bool.{_&&_};
 ghost use Prim.Native.Nat.{_+_, _≤_, _<_};
 ghost use lib.ListN.{length, take, getD, set};
 ghost use Rattle.names.specs.Names.{lanesOf, entryAt, entriesOf};
 ghost use Rattle.names.specs.Lent.{namesLent, namesBefore};
-ghost use Rattle.names.specs.Entering.{Listing, sameText, isOf, lookup, countOf};
+ghost use Rattle.names.specs.Entering.{Listing, isTextOf, lookup, countOf};
 ghost use Rattle.names.specs.Finding.{numberFor};
-ghost use Rattle.names.specs.Hashed.{mixedBy, hashOf, Hashed, lookupIs};
+ghost use Rattle.names.specs.Hashed.{mixedBy, MixedIn, hashOf, Sought, lookupIs};
 use crate::find::Found;
 use crate::find::start_of;
 use crate::first_of;
@@ -30,13 +29,44 @@ fn mixed(h: u32, byte: u8) -> u32
     (h * 33 + byte as u32) % 65536
 }
 
+// Four bytes mixed in by one sum: the powers of 33, the fourth below 65536.
+fn mixed_four(h: u32, a: u8, b: u8, c: u8, d: u8) -> u32
+    requires { ⌜ h < 65536 ⌝ }
+    ensures { λ r. ⌜ (r ≡ mixedBy (mixedBy (mixedBy (mixedBy h a) b) c) d) × (r < 65536) ⌝ }
+{
+    let front = a as u32 * 35937 + b as u32 * 1089;
+    let rest = c as u32 * 33 + d as u32;
+    (h * 6273 + (front + rest)) % 65536
+}
+
+// How many bytes of a word are mixed in, and what they give.
+pub struct Fours {
+    pub at: usize,
+    pub h: u32,
+}
+
+// The first `size` bytes of a word mixed in, by fours.
+fn mixed_fours(word: &[u8], size: usize) -> Fours
+    requires { ⌜ size ≤ length (now word) ⌝ }
+    ensures { λ r. ⌜ MixedIn (take size (now (word .entry))) (r .at) (r .h) ⌝ }
+{
+    let mut h: u32 = 0;
+    let mut i = 0;
+    while 4 <= size - i {
+        h = mixed_four(h, word[i], word[i + 1], word[i + 2], word[i + 3]);
+        i += 4;
+    }
+    Fours { at: i, h }
+}
+
 // The hash of the first `size` bytes of a word.
 pub fn hash(word: &[u8], size: usize) -> usize
     requires { ⌜ size ≤ length (now word) ⌝ }
     ensures { λ r. ⌜ (r ≡ hashOf (take size (now (word .entry)))) × (r < 512) ⌝ }
 {
-    let mut h: u32 = 0;
-    let mut i = 0;
+    let fours = mixed_fours(word, size);
+    let mut h = fours.h;
+    let mut i = fours.at;
     while i < size {
         h = mixed(h, word[i]);
         i += 1;
@@ -56,7 +86,7 @@ fn is_entry(
     size: usize,
 ) -> bool
     requires { ⌜ Listing (namesLent terms ends text) names × (i < names) × (size ≤ length (now word)) ⌝ }
-    ensures { λ r. ⌜ r ≡ isOf sort (entryAt (namesBefore terms ends text) i) && sameText (entryAt (namesBefore terms ends text) i .text) (take size (now (word .entry))) ⌝ }
+    ensures { λ r. ⌜ r ≡ isTextOf sort (take size (now (word .entry))) (entryAt (namesBefore terms ends text) i) ⌝ }
 {
     if term::sort_of(terms[i]) == sort {
         return same(text, start_of(ends, i), ends[i] as usize, word, size);
@@ -77,7 +107,7 @@ fn find_by_hash(
     size: usize,
     h: usize,
 ) -> Match
-    requires { ⌜ Listing (namesLent terms ends text) names × Hashed (entriesOf (namesLent terms ends text) names) (now heads) (now next) × (size ≤ length (now word)) × (h ≡ hashOf (take size (now word))) × (h < 512) ⌝ }
+    requires { ⌜ Sought (namesLent terms ends text) names (now heads) (now next) (now word) size h ⌝ }
     ensures { λ r. ⌜ lookupIs (r .there) (r .number) ≡ lookup (entriesOf (namesBefore terms ends text) names) sort (take size (now (word .entry))) ⌝ }
 {
     let mut there = false;
@@ -123,7 +153,7 @@ pub fn number_by_hash(
     size: usize,
     h: usize,
 ) -> Found
-    requires { ⌜ Listing (namesLent terms ends text) names × Hashed (entriesOf (namesLent terms ends text) names) (now heads) (now next) × (size ≤ length (now word)) × (h ≡ hashOf (take size (now word))) × (h < 512) ⌝ }
+    requires { ⌜ Sought (namesLent terms ends text) names (now heads) (now next) (now word) size h ⌝ }
     ensures { λ r. ⌜ r ≡ numberFor (entriesOf (namesBefore terms ends text) names) sort (take size (now (word .entry))) ⌝ }
 {
     if sort == term::NAME {

@@ -5,17 +5,14 @@ use Prim.Native.Nat.{ℕ}
 use lib.Dec.{eqb}
 use borrow.Author.Tests.{ne-eqb}
 
-pub both-left : (a b : Bool) → (a && b) ≡ true → a ≡ true
-both-left true b e = refl
-both-left false b e = e
-
-pub both-right : (a b : Bool) → (a && b) ≡ true → b ≡ true
-both-right true b e = e
-both-right false b e = absurd (false≢true e)
-
 pub second : (a b : Bool) → a ≡ false → (a || b) ≡ true → b ≡ true
 second true b h e = absurd (true≢false h)
 second false b h e = e
+
+-- where one of two tests passed
+pub either : {P : Type 0} (a b : Bool) → (a || b) ≡ true → (a ≡ true → P) → (b ≡ true → P) → P
+either true b e f g = f refl
+either false b e f g = g e
 
 -- where a test passes at one number and not at another, they are two
 pub differs : (P : ℕ → Bool) (c x : ℕ) → P x ≡ false → P c ≡ true → eqb c x ≡ false

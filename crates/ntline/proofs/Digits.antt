@@ -8,11 +8,12 @@ use lib.Dec.{eqb, leb}
 use borrow.Author.Tests.{leb-true, le-leb, ne-eqb, eqb-true}
 use Rattle.utf8.specs.Characters.{within, isCharacter}
 use Rattle.utf8.specs.Texts.{bad}
+use Rattle.utf8.proofs.Judged.{and-left, and-right}
 use Rattle.ntline.specs.declared.escapes.Fed.{Fed}
 use Rattle.ntline.specs.Classes.{isHex, isDigit, hexValue}
 use Rattle.ntline.specs.Grammar.{Hexes}
 use Rattle.ntline.specs.Escapes.{part, fed, reckoned, shifted, hexedBy, fedBy}
-use Rattle.ntline.proofs.Bools.{both-left, both-right, second, differs}
+use Rattle.ntline.proofs.Bools.{second, differs}
 
 -- a HEX is below 16
 pub hex-small : (c : ℕ) → isHex c ≡ true → hexValue c ≤ 15
@@ -20,13 +21,13 @@ unfolding isHex isDigit hexValue
 hex-small c e = which (within 0x30 0x39 c) refl
   where
     letter : within 0x30 0x39 c ≡ false → (b : Bool) → within 0x41 0x46 c ≡ b → cond b (c - 0x37) (c - 0x57) ≤ 15
-    letter d true u = omega (arith, leb-true c 0x46 (both-right (leb 0x41 c) (leb c 0x46) u))
+    letter d true u = omega (arith, leb-true c 0x46 (and-right (leb 0x41 c) (leb c 0x46) u))
     letter d false u =
         let l : within 0x61 0x66 c ≡ true = second (within 0x41 0x46 c) (within 0x61 0x66 c) u (second (within 0x30 0x39 c) _ d e) in
-        omega (arith, leb-true c 0x66 (both-right (leb 0x61 c) (leb c 0x66) l))
+        omega (arith, leb-true c 0x66 (and-right (leb 0x61 c) (leb c 0x66) l))
 
     which : (b : Bool) → within 0x30 0x39 c ≡ b → cond b (c - 0x30) (cond (within 0x41 0x46 c) (c - 0x37) (c - 0x57)) ≤ 15
-    which true d = omega (arith, leb-true c 0x39 (both-right (leb 0x30 c) (leb c 0x39) d))
+    which true d = omega (arith, leb-true c 0x39 (and-right (leb 0x30 c) (leb c 0x39) d))
     which false d = letter d (within 0x41 0x46 c) refl
 
 -- digits only make a number larger
@@ -39,8 +40,8 @@ unfolding isCharacter
 character-small c e = which (within 0 0xD7FF c) refl
   where
     which : (b : Bool) → within 0 0xD7FF c ≡ b → c ≤ 0x10FFFF
-    which true d = omega (arith, leb-true c 0xD7FF (both-right (leb 0 c) (leb c 0xD7FF) d))
-    which false d = omega (arith, leb-true c 0x10FFFF (both-right (leb 0xE000 c) (leb c 0x10FFFF) (second (within 0 0xD7FF c) _ d e)))
+    which true d = omega (arith, leb-true c 0xD7FF (and-right (leb 0 c) (leb c 0xD7FF) d))
+    which false d = omega (arith, leb-true c 0x10FFFF (and-right (leb 0xE000 c) (leb c 0x10FFFF) (second (within 0 0xD7FF c) _ d e)))
 
 pub not-part : (c : ℕ) → isCharacter c ≡ true → eqb c part ≡ false
 not-part c e = let s = character-small c e in ne-eqb c part (λ (x : c ≡ 0x110001). omega arith)

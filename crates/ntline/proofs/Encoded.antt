@@ -5,47 +5,32 @@ use mathlib.Core.List.{List, [], _∷_, _++_}
 use Prim.Native.Nat.{ℕ, _≤_}
 use native.Mathlib.Omega.{arith}
 use lib.Dec.{eqb, leb}
-use borrow.Author.Tests.{eqb-true, leb-true, le-leb}
+use borrow.Author.Tests.{eqb-true, leb-true}
 use Rattle.utf8.specs.Characters.{within, isCharacter, textBytes}
 use Rattle.utf8.specs.Texts.{charsOf, AllCharacters}
 use Rattle.utf8.proofs.Texts.{chars-of-text, text-of-chars}
+use Rattle.utf8.proofs.Judged.{and-left, and-right, low-character, high-character}
 use Rattle.ntline.specs.Classes.{isWhite, isAlpha, isDigit, isAlnum, isHex, isIriChar, isStringChar, isBase, isNameStart, isNameChar, isLabelStart}
 use Rattle.ntline.specs.Grammar as grammar
 use Rattle.ntline.specs.Lines.{lineOf, Heard, heard, saidBy}
-use Rattle.ntline.proofs.Bools.{both-left, both-right}
+use Rattle.ntline.proofs.Bools.{either}
 use Rattle.ntline.proofs.Resolving.{iri-character, string-character}
 use Rattle.ntline.proofs.Complete.{says-heard, says-one}
 use Rattle.ntline.proofs.Sound.{heard-says}
 
 -- ---- every class is of characters
 
-pub either : {P : Type 0} (a b : Bool) → (a || b) ≡ true → (a ≡ true → P) → (b ≡ true → P) → P
-either true b e f g = f refl
-either false b e f g = g e
-
-pub low : (c : ℕ) → c ≤ 0xD7FF → isCharacter c ≡ true
-unfolding isCharacter
-low c h = rw (le-leb 0 c (omega arith), le-leb c 0xD7FF h) refl
-
-high : (c : ℕ) → 0xE000 ≤ c → c ≤ 0x10FFFF → isCharacter c ≡ true
-unfolding isCharacter
-high c g h = rw (le-leb 0xE000 c g, le-leb c 0x10FFFF h) (or-true (within 0 0xD7FF c))
-  where
-    or-true : (b : Bool) → (b || true) ≡ true
-    or-true true = refl
-    or-true false = refl
-
 one : (c n : ℕ) → n ≤ 0xD7FF → eqb c n ≡ true → isCharacter c ≡ true
-one c n h e = let is = eqb-true c n e in low c (omega arith)
+one c n h e = let is = eqb-true c n e in low-character c (omega arith)
 
 range : (lo hi c : ℕ) → hi ≤ 0xD7FF → within lo hi c ≡ true → isCharacter c ≡ true
-range lo hi c h e = let top = leb-true c hi (both-right (leb lo c) (leb c hi) e) in low c (omega arith)
+range lo hi c h e = let top = leb-true c hi (and-right (leb lo c) (leb c hi) e) in low-character c (omega arith)
 
 range-high : (lo hi c : ℕ) → 0xE000 ≤ lo → hi ≤ 0x10FFFF → within lo hi c ≡ true → isCharacter c ≡ true
 range-high lo hi c g h e =
-    let top = leb-true c hi (both-right (leb lo c) (leb c hi) e) in
-    let low = leb-true lo c (both-left (leb lo c) (leb c hi) e) in
-    high c (omega arith) (omega arith)
+    let top = leb-true c hi (and-right (leb lo c) (leb c hi) e) in
+    let low = leb-true lo c (and-left (leb lo c) (leb c hi) e) in
+    high-character c (omega arith) (omega arith)
 
 pub white-char : (c : ℕ) → isWhite c ≡ true → isCharacter c ≡ true
 unfolding isWhite
@@ -127,7 +112,7 @@ all-append (x ∷ xs) ys a b = (a .0, all-append xs ys (a .1) b)
 
 -- a sign of the grammar
 pub sign : (c : ℕ) → c ≤ 0xD7FF → (cs : List ℕ) → AllCharacters cs → AllCharacters (c ∷ cs)
-sign c h cs a = (low c h, a)
+sign c h cs a = (low-character c h, a)
 
 abbrev along : {xs ys : List ℕ} → xs ≡ ys → AllCharacters ys → AllCharacters xs
 along e a = subst AllCharacters (sym e) a

@@ -9,9 +9,10 @@ pub mod Running
 pub mod Marked
 pub mod Strung
 pub mod Worded
-pub mod Tokens
 pub mod Passing
+pub mod Tokens
 pub mod Spans
+pub mod Blanks
 pub mod Lining
 pub mod Saying
 pub mod Hearing

@@ -9,13 +9,14 @@ use lib.Dec.{eqb, leb, ltb}
 use borrow.Author.Tests.{eq-eqb, ne-eqb, eqb-true, eqb-false, ltb-true}
 use Rattle.utf8.specs.Characters.{isCharacter}
 use Rattle.utf8.specs.Texts.{bad}
+use Rattle.utf8.proofs.Judged.{and-left, and-right}
 use Rattle.ntline.specs.declared.lexing.State.{State}
 use Rattle.ntline.specs.declared.lexing.State.the-variants.{Dead, Iri, IriEnd, Quoted, QuotedEnd}
 use Rattle.ntline.specs.Classes.{isAlpha, isIriChar, isBarred, isStringChar, isSchemeChar}
 use Rattle.ntline.specs.Grammar.{isAbsolute, hasColon, UCHAR, ECHAR, IriChars, StringChars}
 use Rattle.ntline.specs.Escapes.{part, fed, echarOf, openedBy, fedBy}
 use Rattle.ntline.specs.Lexing.{schemed, iriGoes, inIri, quotedGoes, inQuoted, step, kindOf}
-use Rattle.ntline.proofs.Bools.{both-left, both-right, differs}
+use Rattle.ntline.proofs.Bools.{differs}
 use Rattle.ntline.proofs.Digits.{not-part}
 use Rattle.ntline.proofs.Munching.{Way, before, amid, behind, iri-none, iri-feeds, quoted-none, quoted-feeds}
 use Rattle.ntline.proofs.Running.{run, Closing, closing-dead, closing-nil, closing-on, Digits, digits-back}
@@ -133,7 +134,7 @@ module _ (scheme : ℕ) where
   given-back c cs kind w = which (isIriChar c && ltb (schemed scheme c) 3) refl w
     where
       which : (x : Bool) → (isIriChar c && ltb (schemed scheme c) 3) ≡ x → Closing (cond x (Iri (schemed scheme c) 0 0) Dead) cs kind → Given c cs kind
-      which true e v = record { char = both-left (isIriChar c) _ e; fine = both-right (isIriChar c) _ e; goes = v }
+      which true e v = record { char = and-left (isIriChar c) _ e; fine = and-right (isIriChar c) _ e; goes = v }
       which false e v = absurd (closing-dead v refl)
 
   module _ (few : scheme ≤ 2) (most : ℕ) (later : (next : ℕ) (rest : List ℕ) (kind : ℕ) → length rest ≤ most → next ≤ 2 → Closing (Iri next 0 0) rest kind → IriRest next rest kind) where

@@ -7,6 +7,7 @@ use native.Mathlib.Omega.{arith}
 use lib.Dec.{eqb, leb, ltb}
 use borrow.Author.Tests.{ne-eqb, eq-eqb, eqb-true}
 use Rattle.utf8.specs.Characters.{isCharacter}
+use Rattle.utf8.proofs.Judged.{and-left, and-right}
 use Rattle.ntline.specs.declared.escapes.Fed.{Fed}
 use Rattle.ntline.specs.declared.lexing.State.{State}
 use Rattle.ntline.specs.declared.lexing.State.the-variants.{Start, Dead, White, Dot, Hat, Hats, Remark, Under, Colon, Label, Dots, At, Letters, Minus, Alnums, Iri, IriEnd, Quoted, QuotedEnd}
@@ -14,9 +15,9 @@ use Rattle.ntline.specs.Classes.{isWhite, isAlpha, isAlnum, isIriChar, i
 use Rattle.ntline.specs.Grammar.{isAbsolute, hasColon, UCHAR, ECHAR, IriChars, IRIREF, StringChars, STRING}
 use Rattle.ntline.specs.Escapes.{part, fed, echarOf, openedBy, fedBy}
 use Rattle.ntline.specs.Lexing.{schemed, iriGoes, inIri, quotedGoes, inQuoted, begun, inLabel, step, kindOf, Token, tokenIs, munched, tokenOf, aSpace, aDot, aHats, aRemark, aLabel, aTag, anIri, aString}
-use Rattle.ntline.proofs.Bools.{both-left, both-right, second, differs}
+use Rattle.ntline.proofs.Bools.{second, differs}
 use Rattle.ntline.proofs.Digits.{digits-given, not-part}
-use Rattle.ntline.proofs.Resolving.{string-character}
+use Rattle.ntline.proofs.Resolving.{string-character, string-slash}
 
 -- nothing more is found
 pub munched-dead : (kind : ℕ) (rest cs : List ℕ) → munched Dead kind rest cs ≡ tokenIs kind rest
@@ -76,14 +77,14 @@ unfolding schemed
 amid-gone c cs h true e = record { fine = rw e refl; way = rw e behind }
 amid-gone c cs h false e =
     let both = second (eqb c 0x3A) (isSchemeChar c && hasColon cs) e h in
-    let char = both-left (isSchemeChar c) (hasColon cs) both in
-    record { fine = rw (e, char) refl; way = rw (e, char) (amid (both-right (isSchemeChar c) (hasColon cs) both)) }
+    let char = and-left (isSchemeChar c) (hasColon cs) both in
+    record { fine = rw (e, char) refl; way = rw (e, char) (amid (and-right (isSchemeChar c) (hasColon cs) both)) }
 
 gone : {scheme c : ℕ} {cs : List ℕ} → Way scheme (c ∷ cs) → Gone scheme c cs
 unfolding schemed isAbsolute hasColon
 gone {c = c} {cs = cs} (before h) =
-    let letter = both-left (isAlpha c) (hasColon cs) h in
-    record { fine = rw letter refl; way = rw letter (amid (both-right (isAlpha c) (hasColon cs) h)) }
+    let letter = and-left (isAlpha c) (hasColon cs) h in
+    record { fine = rw letter refl; way = rw letter (amid (and-right (isAlpha c) (hasColon cs) h)) }
 gone {c = c} {cs = cs} (amid h) = amid-gone c cs h (eqb c 0x3A) refl
 gone behind = record { fine = refl; way = behind }
 
@@ -99,7 +100,7 @@ barred-part : isIriChar part ≡ false
 unfolding isIriChar isBarred isCharacter
 barred-part = refl
 
-iri-raw : (scheme c : ℕ) → isIriChar c ≡ true → ltb (schemed scheme c) 3 ≡ true → step (Iri scheme 0 0) c ≡ Iri (schemed scheme c) 0 0
+pub iri-raw : (scheme c : ℕ) → isIriChar c ≡ true → ltb (schemed scheme c) 3 ≡ true → step (Iri scheme 0 0) c ≡ Iri (schemed scheme c) 0 0
 unfolding step inIri iriGoes fedBy
 iri-raw scheme c ok way =
     rw (differs isIriChar c 0x3E barred-close ok, differs isIriChar c 0x5C barred-slash ok, differs isIriChar c part barred-part ok, differs isIriChar c part barred-part ok, ok, way) refl
@@ -183,10 +184,6 @@ quoted-none left value = refl
 string-close : isStringChar 0x22 ≡ false
 unfolding isStringChar isCharacter
 string-close = refl
-
-string-slash : isStringChar 0x5C ≡ false
-unfolding isStringChar isCharacter
-string-slash = refl
 
 string-lf : isStringChar 0xA ≡ false
 unfolding isStringChar isCharacter

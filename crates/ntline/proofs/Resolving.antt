@@ -6,10 +6,11 @@ use Prim.Native.Nat.{ℕ, _≤_}
 use native.Mathlib.Omega.{arith}
 use lib.Dec.{eqb}
 use Rattle.utf8.specs.Characters.{isCharacter}
+use Rattle.utf8.proofs.Judged.{and-left}
 use Rattle.ntline.specs.Classes.{isIriChar, isBarred, isStringChar}
 use Rattle.ntline.specs.Grammar.{UCHAR, ECHAR, IriChars, StringChars}
 use Rattle.ntline.specs.Escapes.{part, fed, echarOf, openedBy, fedBy, resolved}
-use Rattle.ntline.proofs.Bools.{both-left, differs}
+use Rattle.ntline.proofs.Bools.{differs}
 use Rattle.ntline.proofs.Digits.{digits-given, not-part}
 
 abbrev gives : ℕ → List ℕ → List ℕ
@@ -45,15 +46,15 @@ barred-slash = refl
 
 pub iri-character : (c : ℕ) → isIriChar c ≡ true → isCharacter c ≡ true
 unfolding isIriChar
-iri-character c ok = both-left (isCharacter c) _ ok
+iri-character c ok = and-left (isCharacter c) _ ok
 
-string-slash : isStringChar 0x5C ≡ false
+pub string-slash : isStringChar 0x5C ≡ false
 unfolding isStringChar isCharacter
 string-slash = refl
 
 pub string-character : (c : ℕ) → isStringChar c ≡ true → isCharacter c ≡ true
 unfolding isStringChar
-string-character c ok = both-left (isCharacter c) _ ok
+string-character c ok = and-left (isCharacter c) _ ok
 
 pub iri-resolved : {source iri : List ℕ} → IriChars source iri → resolved 0 0 source ≡ iri
 unfolding resolved

@@ -6,10 +6,11 @@ use Prim.Native.Nat.{ℕ, _≤_}
 use native.Mathlib.Omega.{arith}
 use lib.Dec.{eqb, leb}
 use borrow.Author.Tests.{eq-eqb, ne-eqb, eqb-true, eqb-false, leb-true}
+use Rattle.utf8.proofs.Judged.{and-left, and-right}
 use Rattle.ntline.specs.Grammar as grammar
 use Rattle.ntline.specs.Lexing.{Token, tokenIs, tokenOf}
 use Rattle.ntline.specs.Lines.{isNil, spaced, isOver, Source, source, typedOf, literalOf, sourceOf, isDotted, Parsed, bad, parsed, empty, objectOf, predicateOf, subjectOf, lineOf, meantBy, Heard, wrong, heard, saidBy}
-use Rattle.ntline.proofs.Bools.{both-left, both-right, second}
+use Rattle.ntline.proofs.Bools.{second}
 use Rattle.ntline.proofs.Worded.{Standing, token-sound, is-space, is-dot, is-hats, is-remark, is-label, is-tag, is-iri, is-string}
 use Rattle.ntline.proofs.Spans.{source-iri, source-label, source-string, source-none, literal-tag, literal-hats, literal-bare, typed-iri, typed-none}
 use Rattle.ntline.proofs.Hearing.{meant-name, meant-blank, meant-literal, plain-mark, tag-mark, type-mark}
@@ -226,8 +227,8 @@ over-sound cs e = which (isNil (spaced cs)) refl e
         let w = spaced-sound cs in
         record { space = w .space; comment = []; white = w .white; has = grammar.Comment.none; parts = w .parts ∙ ap (λ (l : List ℕ). w .space ++ l) (is-nil (spaced cs) n) }
     which false n h =
-        let k = eqb-true (tokenOf (spaced cs) .kind) 4 (both-left (eqb (tokenOf (spaced cs) .kind) 4) _ h) in
-        let nil = is-nil (tokenOf (spaced cs) .rest) (both-right (eqb (tokenOf (spaced cs) .kind) 4) _ h) in
+        let k = eqb-true (tokenOf (spaced cs) .kind) 4 (and-left (eqb (tokenOf (spaced cs) .kind) 4) _ h) in
+        let nil = is-nil (tokenOf (spaced cs) .rest) (and-right (eqb (tokenOf (spaced cs) .kind) 4) _ h) in
         let b = behind-sound cs 4 k (λ (z : 4 ≡ 0). omega arith) in
         let r = is-remark (b .terminal) refl in
         record {
@@ -250,10 +251,10 @@ record Dotted (cs : List ℕ) : Type 0 where
 dotted-sound : (cs : List ℕ) → isDotted cs ≡ true → Dotted cs
 unfolding isDotted
 dotted-sound cs e =
-    let k = eqb-true (tokenOf (spaced cs) .kind) 2 (both-left (eqb (tokenOf (spaced cs) .kind) 2) _ e) in
+    let k = eqb-true (tokenOf (spaced cs) .kind) 2 (and-left (eqb (tokenOf (spaced cs) .kind) 2) _ e) in
     let b = behind-sound cs 2 k (λ (z : 2 ≡ 0). omega arith) in
     let dot = is-dot (b .terminal) refl in
-    let o = over-sound (tokenOf (spaced cs) .rest) (both-right (eqb (tokenOf (spaced cs) .kind) 2) _ e) in
+    let o = over-sound (tokenOf (spaced cs) .rest) (and-right (eqb (tokenOf (spaced cs) .kind) 2) _ e) in
     record {
       space = b .space;
       after = o .space;
@@ -308,7 +309,7 @@ module _ (cs : List ℕ) (said : grammar.Said) where
     where
       which : (x : Bool) → (leb (O .sort) 2 && isDotted (O .tail)) ≡ x → saidBy (cond x (parsed S P O) bad) ≡ heard said → grammar.Says cs said
       which true b h =
-          triple-there hs hp (leb-true (O .sort) 2 (both-left (leb (O .sort) 2) _ b)) (both-right (leb (O .sort) 2) _ b) h
+          triple-there hs hp (leb-true (O .sort) 2 (and-left (leb (O .sort) 2) _ b)) (and-right (leb (O .sort) 2) _ b) h
       which false b h = absurd (heard-wrong said h)
 
   predicate-says : S .sort ≤ 1 → saidBy (predicateOf S) ≡ heard said → grammar.Says cs said

@@ -18,11 +18,11 @@ use Rattle.ntline.specs.Lexing.{Token, tokenOf}
 use Rattle.ntline.specs.Lines.{isNil, spaced, isOver, Source, source, typedOf, literalOf, sourceOf, isDotted, span, SpanOf}
 use Rattle.ntline.specs.Inner.{TokenAt, SpacedAt}
 
-spaced-space : (cs : List ℕ) → tokenOf cs .kind ≡ 1 → spaced cs ≡ tokenOf cs .rest
+pub spaced-space : (cs : List ℕ) → tokenOf cs .kind ≡ 1 → spaced cs ≡ tokenOf cs .rest
 unfolding spaced
 spaced-space cs e = rw (eq-eqb (tokenOf cs .kind) 1 e) refl
 
-spaced-none : (cs : List ℕ) → (tokenOf cs .kind ≡ 1 → ⊥) → spaced cs ≡ cs
+pub spaced-none : (cs : List ℕ) → (tokenOf cs .kind ≡ 1 → ⊥) → spaced cs ≡ cs
 unfolding spaced
 spaced-none cs e = rw (ne-eqb (tokenOf cs .kind) 1 e) refl
 
@@ -91,29 +91,11 @@ module _ (b : List ℕ) where
           let long = length-slice at end b k in
           some-chars (slice at end b) (omega (arith, long, ne)) (characterIn (slice at end b)) refl
 
-  pub spaced-taken : (at end kind to : ℕ) → TokenAt b at end kind to → kind ≡ 1 → SpacedAt b at end to
-  spaced-taken at end kind to t e =
-      record { later = t .later; within = t .within; rest-is = t .rest-is ∙ sym (spaced-space (seen b at end) (sym (t .kind-is) ∙ e)) }
-
-  pub spaced-left : (at end kind to : ℕ) → at ≤ end → TokenAt b at end kind to → (kind ≡ 1 → ⊥) → SpacedAt b at end at
-  spaced-left at end kind to h t e =
-      record {
-        later = omega arith;
-        within = h;
-        rest-is = sym (spaced-none (seen b at end) (λ (x : tokenOf (seen b at end) .kind ≡ 1). e (t .kind-is ∙ x)));
-      }
-
   pub over-end : (at end from : ℕ) → SpacedAt b at end from → from ≡ end → true ≡ isOver (seen b at end)
   unfolding isOver
   over-end at end from s e =
       let nil : spaced (seen b at end) ≡ [] = sym (s .rest-is) ∙ ap (λ (n : ℕ). charsOf (slice n end b)) e ∙ seen-none end in
       rw nil refl
-
-  pub over-token : (at end from kind to : ℕ) → end ≤ length b → SpacedAt b at end from → (from ≡ end → ⊥) → TokenAt b from end kind to →
-      (eqb kind 4 && eqb to end) ≡ isOver (seen b at end)
-  unfolding isOver
-  over-token at end from kind to k s some t =
-      rw (← s .rest-is, nil-is-end from end (s .within) k, ne-eqb from end some, ← t .kind-is, ← t .rest-is, nil-is-end to end (t .within) k) refl
 
   -- a terminal behind white space
   module _ (at end from kind to : ℕ) (s : SpacedAt b at end from) (t : TokenAt b from end kind to) where

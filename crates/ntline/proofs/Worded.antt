@@ -25,7 +25,7 @@ ended w n e = sym (w .ended) ∙ e
 
 -- ---- white space and comments
 
-white-stop : (c : ℕ) → isWhite c ≡ false → step White c ≡ Dead
+pub white-stop : (c : ℕ) → isWhite c ≡ false → step White c ≡ Dead
 unfolding step
 white-stop c e = rw e refl
 
@@ -41,7 +41,7 @@ white-sound (c ∷ cs) kind w = which (isWhite c) refl (λ v. white-sound cs kin
     which true e later = let r = later (closing-on w (white-goes c e)) in (r .0, grammar.White.more e (r .1))
     which false e later = absurd (closing-dead (closing-on w (white-stop c e)) refl)
 
-remark-stop : (c : ℕ) → isCharacter c ≡ false → step Remark c ≡ Dead
+pub remark-stop : (c : ℕ) → isCharacter c ≡ false → step Remark c ≡ Dead
 unfolding step
 remark-stop c e = rw e refl
 
@@ -294,31 +294,31 @@ pub data Terminal : List ℕ → ℕ → Type 0 where
 begins : (c : ℕ) (s : State) (n : ℕ) → eqb c n ≡ true → step Start n ≡ s → step Start c ≡ s
 begins c s n e q = ap (step Start) (eqb-true c n e) ∙ q
 
-begins-iri : step Start 0x3C ≡ Iri 0 0 0
+pub begins-iri : step Start 0x3C ≡ Iri 0 0 0
 unfolding step begun isWhite
 begins-iri = refl
 
-begins-under : step Start 0x5F ≡ Under
+pub begins-under : step Start 0x5F ≡ Under
 unfolding step begun isWhite
 begins-under = refl
 
-begins-quoted : step Start 0x22 ≡ Quoted 0 0
+pub begins-quoted : step Start 0x22 ≡ Quoted 0 0
 unfolding step begun isWhite
 begins-quoted = refl
 
-begins-at : step Start 0x40 ≡ At
+pub begins-at : step Start 0x40 ≡ At
 unfolding step begun isWhite
 begins-at = refl
 
-begins-hat : step Start 0x5E ≡ Hat
+pub begins-hat : step Start 0x5E ≡ Hat
 unfolding step begun isWhite
 begins-hat = refl
 
-begins-dot : step Start 0x2E ≡ Dot
+pub begins-dot : step Start 0x2E ≡ Dot
 unfolding step begun isWhite
 begins-dot = refl
 
-begins-remark : step Start 0x23 ≡ Remark
+pub begins-remark : step Start 0x23 ≡ Remark
 unfolding step begun isWhite
 begins-remark = refl
 

@@ -35,7 +35,7 @@ pub white-begins : (c : ℕ) → isWhite c ≡ true → step Start c ≡ White
 unfolding step begun
 white-begins c e = rw e refl
 
-kind-white : kindOf White ≡ aSpace
+pub kind-white : kindOf White ≡ aSpace
 unfolding kindOf
 kind-white = refl
 
@@ -73,7 +73,7 @@ pub dots-dot : step Dots 0x2E ≡ Dots
 unfolding step inLabel isNameChar isNameStart isBase isAlpha isDigit
 dots-dot = refl
 
-kind-label : kindOf Label ≡ aLabel
+pub kind-label : kindOf Label ≡ aLabel
 unfolding kindOf
 kind-label = refl
 
@@ -142,7 +142,7 @@ pub minus-goes : (c : ℕ) → isAlnum c ≡ true → step Minus c ≡ Alnums
 unfolding step
 minus-goes c e = rw e refl
 
-kind-letters : kindOf Letters ≡ aTag
+pub kind-letters : kindOf Letters ≡ aTag
 unfolding kindOf
 kind-letters = refl
 
@@ -193,7 +193,7 @@ pub remark-goes : (c : ℕ) → isCharacter c ≡ true → step Remark c ≡ Rem
 unfolding step
 remark-goes c e = rw e refl
 
-kind-remark : kindOf Remark ≡ aRemark
+pub kind-remark : kindOf Remark ≡ aRemark
 unfolding kindOf
 kind-remark = refl
 

@@ -7,14 +7,8 @@ use Rattle.utf8.specs.Texts.{seen}
 use Rattle.ntline.specs.declared.lexing.State.{State}
 use Rattle.ntline.specs.declared.lines.Span.{Span}
 use Rattle.ntline.specs.declared.lines.Line.{Line}
-use Rattle.ntline.specs.Lexing.{munched, tokenOf}
+use Rattle.ntline.specs.Lexing.{tokenIs, munched, tokenOf}
 use Rattle.ntline.specs.Lines.{Source, spaced, typedOf, literalOf, sourceOf, objectOf, predicateOf, subjectOf, SpanOf, LineOf}
-
--- from one position up to another nothing changes: the state stays, and no terminal ends
-pub record RunTo (s : State) (b : List ℕ) (at end to : ℕ) : Type 0 where
-  pub later : at ≤ to
-  pub within : to ≤ end
-  pub same : (kind : ℕ) (rest : List ℕ) → munched s kind rest (seen b at end) ≡ munched s kind rest (seen b to end)
 
 -- the terminal at a position
 pub record TokenAt (b : List ℕ) (at end kind to : ℕ) : Type 0 where
@@ -22,6 +16,18 @@ pub record TokenAt (b : List ℕ) (at end kind to : ℕ) : Type 0 where
   pub within : to ≤ end
   pub kind-is : kind ≡ tokenOf (seen b at end) .kind
   pub rest-is : seen b to end ≡ tokenOf (seen b at end) .rest
+
+-- behind some characters of the terminal at a position: the state there, the terminal that ended last, and where
+pub record Reached (b : List ℕ) (at end : ℕ) (state : State) (kind to i : ℕ) : Type 0 where
+  pub later : at ≤ to
+  pub within : to ≤ end
+  pub gone : at ≤ i
+  pub inside : i ≤ end
+  pub same : tokenOf (seen b at end) ≡ munched state kind (seen b to end) (seen b i end)
+
+-- no terminal goes on in this state
+pub record StopsAt (s : State) (b : List ℕ) (at end : ℕ) : Type 0 where
+  pub stops : (kind : ℕ) (rest : List ℕ) → munched s kind rest (seen b at end) ≡ tokenIs kind rest
 
 pub record SpacedAt (b : List ℕ) (at end to : ℕ) : Type 0 where
   pub later : at ≤ to

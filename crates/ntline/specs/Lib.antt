@@ -4,4 +4,5 @@ pub mod Grammar
 pub mod Escapes
 pub mod Lexing
 pub mod Lines
+pub mod Runs
 pub mod Inner

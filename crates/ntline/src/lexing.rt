@@ -1,12 +1,13 @@
 // The terminals, a character at a time, and the longest of them that a line begins with.
 ghost use mathlib.Core.Path.{_≡_};
-ghost use Prim.Native.Nat.{_≤_};
-ghost use mathlib.Core.Bool.{cond};
-ghost use lib.ListN.{length};
+ghost use Prim.Native.Nat.{_≤_, _<_};
+ghost use mathlib.Core.Bool.{true, cond};
+ghost use lib.ListN.{length, getD};
 ghost use lib.Dec.{eqb};
-ghost use Rattle.ntline.specs.declared.lexing.State.the-variants.{Dead, Letters, Alnums};
+ghost use Rattle.ntline.specs.declared.lexing.State.the-variants.{Dead, Label, Letters, Alnums};
 ghost use Rattle.ntline.specs.Lexing.{schemed, iriGoes, inIri, quotedGoes, inQuoted, begun, inLabel, step, kindOf, isDead, laterKind};
-ghost use Rattle.ntline.specs.Inner.{TokenAt, RunTo};
+ghost use Rattle.ntline.specs.Runs.{RunTo};
+ghost use Rattle.ntline.specs.Inner.{Reached, StopsAt, TokenAt};
 use crate::classes::is_alnum;
 use crate::classes::is_alpha;
 use crate::classes::is_character;
@@ -20,9 +21,12 @@ use crate::escapes::Fed;
 use crate::escapes::PART;
 use crate::escapes::choose;
 use crate::escapes::feed;
-use crate::runs::iri_run;
-use crate::runs::string_run;
+use crate::runs::label_run;
+use crate::runs::letters_run;
+use crate::runs::plain_run;
+use crate::runs::scheme_run;
 use utf8::see;
+use utf8::wide;
 
 // Where in a terminal a line is read.
 pub enum State {
@@ -261,20 +265,20 @@ fn later_to(new: u8, here: usize, old: usize) -> usize
 }
 
 // Behind the bytes that change nothing of a state.
-fn pass(b: &[u8], at: usize, end: usize, s: State) -> usize
+pub fn pass(b: &[u8], at: usize, end: usize, s: State) -> usize
     requires { ⌜ (at ≤ end) × (end ≤ length (now b)) ⌝ }
     ensures { λ r. ⌜ RunTo s (now (b .entry)) at end r ⌝ }
 {
     match s {
         State::Iri(scheme, left, value) => {
             if (scheme == 2) & ((left == 0) & (value == 0)) {
-                return iri_run(b, at, end);
+                return plain_run(b, at, end, false);
             }
             at
         }
         State::Quoted(left, value) => {
             if (left == 0) & (value == 0) {
-                return string_run(b, at, end);
+                return plain_run(b, at, end, true);
             }
             at
         }
@@ -282,15 +286,15 @@ fn pass(b: &[u8], at: usize, end: usize, s: State) -> usize
     }
 }
 
-// The longest terminal at a position; NONE, and the position, where there is none.
-pub fn token(b: &[u8], at: usize, end: usize) -> Terminal
-    requires { ⌜ (at ≤ end) × (end ≤ length (now b)) ⌝ }
+// The longest terminal at `at`, a character at a time, where a state is reached behind some of them and none ended yet.
+fn longest_from(b: &[u8], at: usize, end: usize, first: State, from: usize) -> Terminal
+    requires { ⌜ (end ≤ length (now b)) × Reached (now b) at end first 0 at from ⌝ }
     ensures { λ r. ⌜ TokenAt (now (b .entry)) at end (r .kind) (r .to) ⌝ }
 {
-    let mut state = State::Start;
+    let mut state = first;
     let mut kind = NONE;
     let mut to = at;
-    let mut i = at;
+    let mut i = from;
     while i < end {
         let c = see(b, i, end);
         let next = c.next;
@@ -304,4 +308,170 @@ pub fn token(b: &[u8], at: usize, end: usize) -> Terminal
         i = pass(b, next, end, state);
     }
     Terminal { kind, to }
+}
+
+// The longest terminal at a position; NONE, and the position, where there is none.
+fn longest(b: &[u8], at: usize, end: usize) -> Terminal
+    requires { ⌜ (at ≤ end) × (end ≤ length (now b)) ⌝ }
+    ensures { λ r. ⌜ TokenAt (now (b .entry)) at end (r .kind) (r .to) ⌝ }
+{
+    longest_from(b, at, end, State::Start, at)
+}
+
+// Whether this byte stands at a position before `end`.
+fn is_byte(b: &[u8], at: usize, end: usize, x: u8) -> bool
+    requires { ⌜ end ≤ length (now b) ⌝ }
+    ensures { λ r. ⌜ (r ≡ true → (at < end) × (getD (now (b .entry)) at 0 ≡ x)) ⌝ }
+{
+    if end <= at {
+        return false;
+    }
+    b[at] == x
+}
+
+// The terminal at a '<': most IRIs are all of plain bytes.
+fn iri_token(b: &[u8], at: usize, end: usize) -> Terminal
+    requires { ⌜ (at < end) × (end ≤ length (now b)) × (getD (now b) at 0 ≡ 0x3C) ⌝ }
+    ensures { λ r. ⌜ TokenAt (now (b .entry)) at end (r .kind) (r .to) ⌝ }
+{
+    let from = at + 1;
+    let behind = scheme_run(b, from, end);
+    if behind <= from {
+        return longest(b, at, end);
+    }
+    let to = plain_run(b, behind, end, false);
+    if is_byte(b, to, end, 0x3E) {
+        return Terminal {
+            kind: IRI,
+            to: to + 1,
+        };
+    }
+    longest_from(b, at, end, State::Iri(2, 0, 0), to)
+}
+
+// The terminal at a quote: many strings are all of plain bytes.
+fn string_token(b: &[u8], at: usize, end: usize) -> Terminal
+    requires { ⌜ (at < end) × (end ≤ length (now b)) × (getD (now b) at 0 ≡ 0x22) ⌝ }
+    ensures { λ r. ⌜ TokenAt (now (b .entry)) at end (r .kind) (r .to) ⌝ }
+{
+    let to = plain_run(b, at + 1, end, true);
+    if is_byte(b, to, end, 0x22) {
+        return Terminal {
+            kind: STRING,
+            to: to + 1,
+        };
+    }
+    longest_from(b, at, end, State::Quoted(0, 0), to)
+}
+
+// Whether no label goes on here, for a byte below 0x80 or the end.
+fn ends_label(b: &[u8], at: usize, end: usize) -> bool
+    requires { ⌜ (at ≤ end) × (end ≤ length (now b)) ⌝ }
+    ensures { λ r. ⌜ (r ≡ true → StopsAt Label (now (b .entry)) at end) ⌝ }
+{
+    if at == end {
+        return true;
+    }
+    let x = wide(b[at]);
+    if 0x7F < x {
+        return false;
+    }
+    if x == 0x2E {
+        return false;
+    }
+    !is_name_char(x)
+}
+
+// The terminal at a '_': most labels are all of bytes below 0x80.
+fn label_token(b: &[u8], at: usize, end: usize) -> Terminal
+    requires { ⌜ (at < end) × (end ≤ length (now b)) × (getD (now b) at 0 ≡ 0x5F) ⌝ }
+    ensures { λ r. ⌜ TokenAt (now (b .entry)) at end (r .kind) (r .to) ⌝ }
+{
+    if !is_byte(b, at + 1, end, 0x3A) {
+        return longest(b, at, end);
+    }
+    let from = at + 2;
+    let to = label_run(b, from, end);
+    if to <= from {
+        return longest(b, at, end);
+    }
+    if !is_label_start(wide(b[from])) {
+        return longest(b, at, end);
+    }
+    if ends_label(b, to, end) {
+        return Terminal { kind: LABEL, to };
+    }
+    longest(b, at, end)
+}
+
+// Whether no tag's letters go on here, for a byte below 0x80 or the end.
+fn ends_tag(b: &[u8], at: usize, end: usize) -> bool
+    requires { ⌜ (at ≤ end) × (end ≤ length (now b)) ⌝ }
+    ensures { λ r. ⌜ (r ≡ true → StopsAt Letters (now (b .entry)) at end) ⌝ }
+{
+    if at == end {
+        return true;
+    }
+    let c = wide(b[at]);
+    if 0x7F < c {
+        return false;
+    }
+    if c == 0x2D {
+        return false;
+    }
+    !is_alpha(c)
+}
+
+// The terminal at an '@': most tags are letters alone.
+fn tag_token(b: &[u8], at: usize, end: usize) -> Terminal
+    requires { ⌜ (at < end) × (end ≤ length (now b)) × (getD (now b) at 0 ≡ 0x40) ⌝ }
+    ensures { λ r. ⌜ TokenAt (now (b .entry)) at end (r .kind) (r .to) ⌝ }
+{
+    let from = at + 1;
+    let to = letters_run(b, from, end);
+    if to <= from {
+        return longest(b, at, end);
+    }
+    if ends_tag(b, to, end) {
+        return Terminal { kind: TAG, to };
+    }
+    longest(b, at, end)
+}
+
+// The longest terminal at a position; NONE, and the position, where there is none.
+pub fn token(b: &[u8], at: usize, end: usize) -> Terminal
+    requires { ⌜ (at ≤ end) × (end ≤ length (now b)) ⌝ }
+    ensures { λ r. ⌜ TokenAt (now (b .entry)) at end (r .kind) (r .to) ⌝ }
+{
+    if at == end {
+        return longest(b, at, end);
+    }
+    let x = b[at];
+    if x == 0x3C {
+        return iri_token(b, at, end);
+    }
+    if x == 0x22 {
+        return string_token(b, at, end);
+    }
+    if x == 0x5F {
+        return label_token(b, at, end);
+    }
+    if x == 0x40 {
+        return tag_token(b, at, end);
+    }
+    if x == 0x2E {
+        return Terminal {
+            kind: DOT,
+            to: at + 1,
+        };
+    }
+    if x == 0x5E {
+        if is_byte(b, at + 1, end, 0x5E) {
+            return Terminal {
+                kind: HATS,
+                to: at + 2,
+            };
+        }
+    }
+    longest(b, at, end)
 }

@@ -4,4 +4,4 @@ pub mod classes;
 pub mod escapes;
 pub mod lexing;
 pub mod lines;
-mod runs;
+pub mod runs;

@@ -5,15 +5,19 @@ ghost use lib.ListN.{length};
 ghost use Rattle.utf8.specs.Texts.{seen};
 ghost use Rattle.ntline.specs.Lines.{span, LineOf, lineOf, isOver, isDotted};
 ghost use Rattle.ntline.specs.Inner.{SpacedAt, TermAt, TypedAt, LiteralAt, ObjectAt, PredicateAt, SubjectAt};
+use crate::classes::is_white;
 use crate::lexing::DOT;
 use crate::lexing::HATS;
 use crate::lexing::IRI;
 use crate::lexing::LABEL;
-use crate::lexing::REMARK;
-use crate::lexing::SPACE;
 use crate::lexing::STRING;
 use crate::lexing::TAG;
 use crate::lexing::token;
+use utf8::is_text;
+use utf8::wide;
+
+// A comment begins.
+const SHARP: u8 = 0x23;
 
 pub const NAME: u8 = 0;
 
@@ -42,11 +46,14 @@ fn spaced(b: &[u8], at: usize, end: usize) -> usize
     requires { ⌜ (at ≤ end) × (end ≤ length (now b)) ⌝ }
     ensures { λ r. ⌜ SpacedAt (now (b .entry)) at end r ⌝ }
 {
-    let t = token(b, at, end);
-    if t.kind == SPACE {
-        return t.to;
+    let mut i = at;
+    while i < end {
+        if !is_white(wide(b[i])) {
+            return i;
+        }
+        i += 1;
     }
-    at
+    i
 }
 
 // Nothing is left but white space and perhaps a comment.
@@ -58,8 +65,10 @@ fn over(b: &[u8], at: usize, end: usize) -> bool
     if from == end {
         return true;
     }
-    let t = token(b, from, end);
-    (t.kind == REMARK) & (t.to == end)
+    if b[from] != SHARP {
+        return false;
+    }
+    is_text(b, from + 1, end)
 }
 
 fn no_term(at: usize) -> Span

@@ -18,7 +18,8 @@ use Rattle.names.specs.Names.{Entry, entry, NameLanes}
 use Rattle.names.specs.Entering.{Lookup, known, hasRoom, answerOf, enteredBy, nextOf, bytesOf}
 use Rattle.names.proofs.Same.{both-true}
 use Rattle.nttext.specs.Texts.{textOfTerm, sortOfTerm}
-use Rattle.ntread.specs.Reading.{LineAt, lineAt, isEol, beginsLine, longer, linesFrom, Read, Room, refused, readAs, whenEntered, enterTerm, whenRoom, addTriple, readLine, readLines}
+use Rattle.ntenter.specs.Line.{Read, Room, refused, readAs, whenEntered, enterTerm, whenRoom, addTriple, readLine}
+use Rattle.ntread.specs.Reading.{LineAt, lineAt, isEol, beginsLine, longer, linesFrom, readLines}
 
 pub record Bounded (most : ℕ) (room : Room) (r : Read) : Type 0 where
   pub place : r .verdict-of .place ≤ most

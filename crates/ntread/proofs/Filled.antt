@@ -6,14 +6,16 @@ use native.Mathlib.Nat.{sub-zero}
 use native.Mathlib.Omega.{arith}
 use lib.ListN.{length, getD, take, drop, replicate, length-append, length-replicate, take-append-drop}
 use lib.Seq.{slice, take-suc, take-add, take-at, drop-at, length-take-le, length-slice}
+use Rattle.utf8.proofs.Seeing.{drop-take}
 use Rattle.ground.specs.Lists.{tab}
 use Rattle.ground.proofs.Tab.{tab-length}
 use Rattle.names.specs.Names.{Entry, NameLanes, lanesOf, startOf, textAt, entryAt, entriesOf}
 use Rattle.names.specs.Entering.{Listing, bytesOf}
 use Rattle.names.proofs.Entries.{tab-snoc, text-is, end-within}
 use Rattle.ntread.specs.Reading.{endsFrom, textsOf, filledNames}
-use Rattle.ntread.specs.Inner.{ListAsLong, zeroedNames}
-use Rattle.ntread.proofs.Entered.{drop-take, kept-listing, kept-entries}
+use Rattle.ntnumber.specs.Numbering.{ListAsLong}
+use Rattle.ntread.specs.Inner.{zeroedNames}
+use Rattle.ntnumber.proofs.Numbers.{kept-listing, kept-entries}
 
 -- ---- one entry more
 

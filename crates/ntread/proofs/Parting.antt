@@ -1,16 +1,17 @@
 -- A file's lines by positions: an EOL begins none, and a line goes on to its end. Assumes nothing.
-use mathlib.Core.Path.{_≡_, refl, ap, _∙_}
-use mathlib.Core.Bool.{Bool, true, false}
+use mathlib.Core.Path.{_≡_, refl, ap, subst, _∙_}
+use mathlib.Core.Bool.{Bool, true, false, _||_, true≢false}
 use mathlib.Core.List.{List, [], _∷_}
 use Prim.Native.Nat.{ℕ, zero, suc, _+_, _-_, _≤_, _<_}
 use native.Mathlib.Numerals.{add-one}
 use native.Mathlib.Omega.{arith}
-use lib.Dec.{eqb, ltb}
+use native.Mathlib.Decide.{decLt}
+use lib.Dec.{eqb, leb, ltb}
 use lib.ListN.{length, getD, drop, drop-of-length-le}
 use lib.Seq.{slice, slice-cons, slice-empty, drop-cons}
-use borrow.Author.Tests.{ltb-true, ltb-false, eqb-true, eqb-false, eq-eqb, ne-eqb}
+use borrow.Author.Tests.{leb-false, ltb-true, ltb-false, eqb-true, eqb-false, eq-eqb, ne-eqb}
 use Rattle.ntread.specs.Reading.{isEol, lineAt, beginsLine, linesFrom}
-use Rattle.ntread.specs.Inner.{LineEnd}
+use Rattle.ntread.specs.Inner.{Inside, LineEnd}
 
 module _ (b : List ℕ) where
   -- nothing is left
@@ -59,19 +60,47 @@ module _ (b : List ℕ) where
 
 -- ---- where a line ends
 
-module _ (b : List ℕ) (at i : ℕ) (from : at ≤ i) (inside : (k : ℕ) → at ≤ k → k < i → isEol (getD b k 0) ≡ false) where
+module _ (b : List ℕ) (at i : ℕ) (run : Inside b at i) where
   pub end-here : i < length b → isEol (getD b i 0) ≡ true → LineEnd b at i
-  end-here h e = record { from = from; within = omega arith; inside = inside; over = λ q. e }
+  end-here h e = record { from = run .from; within = run .within; inside = run .each; over = λ q. e }
 
-  pub end-over : i ≡ length b → LineEnd b at i
-  end-over e = record { from = from; within = omega arith; inside = inside; over = λ q. absurd (omega arith) }
+  pub end-over : length b ≤ i → LineEnd b at i
+  end-over h = record { from = run .from; within = run .within; inside = run .each; over = λ q. absurd (omega arith) }
 
-  pub inside-more : isEol (getD b i 0) ≡ false → (k : ℕ) → at ≤ k → k < i + 1 → isEol (getD b k 0) ≡ false
-  inside-more e k p q = go (eqb k i) refl
+  -- so many bytes more
+  pub inside-block : (size : ℕ) → i + size ≤ length b → ((k : ℕ) → k < size → isEol (getD b (i + k) 0) ≡ false) → Inside b at (i + size)
+  inside-block size h e = record {
+    from = omega (arith, run .from);
+    within = h;
+    each = λ k p q. which k p q (decLt k i);
+  }
     where
-      go : (t : Bool) → eqb k i ≡ t → isEol (getD b k 0) ≡ false
-      go true r = rw (eqb-true k i r) e
-      go false r = let f = eqb-false k i r in inside k p (omega arith)
+      which : (k : ℕ) → at ≤ k → k < i + size → Dec (k < i) → isEol (getD b k 0) ≡ false
+      which k p q (yes l) = run .each k p l
+      which k p q (no l) =
+          let is : i + (k - i) ≡ k = omega arith in
+          subst (λ (n : ℕ). isEol (getD b n 0) ≡ false) is (e (k - i) (omega arith))
+
+  pub inside-more : i < length b → isEol (getD b i 0) ≡ false → Inside b at (i + 1)
+  inside-more h e =
+      inside-block 1 (omega arith) (λ k l. let is : i ≡ i + k = omega arith in subst (λ (n : ℕ). isEol (getD b n 0) ≡ false) is e)
+
+pub inside-none : (b : List ℕ) (at : ℕ) → at ≤ length b → Inside b at at
+inside-none b at h = record { from = omega arith; within = h; each = λ k p q. absurd (omega arith) }
+
+-- one byte more of a block
+pub high-more : (b : List ℕ) (at k : ℕ) (low : Bool) → (low ≡ false → (j : ℕ) → j < k → isEol (getD b (at + j) 0) ≡ false) →
+    (low || leb (getD b (at + k) 0) 13) ≡ false → (j : ℕ) → j < k + 1 → isEol (getD b (at + j) 0) ≡ false
+high-more b at k true before e j h = absurd (true≢false e)
+high-more b at k false before e j h = which (decLt j k)
+  where
+    which : Dec (j < k) → isEol (getD b (at + j) 0) ≡ false
+    which (yes l) = before refl j l
+    which (no l) =
+        let is : k ≡ j = omega arith in
+        let high : 13 < getD b (at + k) 0 = leb-false (getD b (at + k) 0) 13 e in
+        subst (λ (n : ℕ). isEol (getD b (at + n) 0) ≡ false) is
+        (rw (ne-eqb (getD b (at + k) 0) 13 (λ q. omega arith), ne-eqb (getD b (at + k) 0) 10 (λ q. omega arith)) refl)
 
 -- ---- which bytes part lines
 

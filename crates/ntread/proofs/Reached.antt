@@ -17,11 +17,14 @@ use Rattle.utf8.specs.Texts.{seen}
 use Rattle.names.specs.Names.{Entry, NameLanes, entriesOf}
 use Rattle.names.specs.Entering.{Listing}
 use Rattle.ntline.specs.Lines.{lineOf, saidBy}
-use Rattle.ntread.specs.declared.line.LineDone.{LineDone}
-use Rattle.ntread.specs.Reading.{Read, Room, LineAt, isEol, linesFrom, readLine, readLines, refused, roomOf}
-use Rattle.ntread.specs.Inner.{ListAsLong, LineInto, LineRead, LineEnd, Fresh, allLines, LinesRead, refusedDone}
+use Rattle.ntenter.specs.declared.LineDone.{LineDone}
+use Rattle.ntenter.specs.Line.{Read, Room, readLine, refused, roomOf}
+use Rattle.ntread.specs.Reading.{LineAt, isEol, linesFrom, readLines}
+use Rattle.ntnumber.specs.Numbering.{ListAsLong}
+use Rattle.ntenter.specs.Inner.{LineInto, LineRead}
+use Rattle.ntread.specs.Inner.{LineEnd, Fresh, allLines, LinesRead, refusedDone}
 use Rattle.ntread.proofs.Parting.{lines-over, lines-skip, lines-line}
-use Rattle.ntread.proofs.Threes.{list-long-self, list-long-on}
+use Rattle.ntenter.proofs.Threes.{list-long-self, list-long-on}
 
 -- the lines up to `at` are read into count rows and so many names, and those from there on are left
 pub record Reached (kind a : ℕ) (b : List ℕ) (l m : Lanes) (n k : NameLanes) (at count names : ℕ) : Type 0 where

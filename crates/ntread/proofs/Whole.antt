@@ -22,7 +22,8 @@ use Rattle.names.specs.Names.{Entry, NameLanes, lanesOf, startOf, entryAt, entr
 use Rattle.names.specs.Entering.{Listing}
 use Rattle.names.proofs.Meaning.{listing-start}
 use Rattle.ntread.specs.declared.TriplesRead.{TriplesRead}
-use Rattle.ntread.specs.Reading.{Read, refused, readAs, lentChecks, readFile, readLines, linesFrom, isKept, filledNames, roomOf, ReadingTriples}
+use Rattle.ntenter.specs.Line.{Read, refused, readAs, roomOf}
+use Rattle.ntread.specs.Reading.{lentChecks, readFile, readLines, linesFrom, isKept, filledNames, ReadingTriples}
 use Rattle.ntread.specs.Inner.{Fresh, refusedDone, allLines, LinesRead, ReadNew, zeroedNames}
 use Rattle.ntread.proofs.Filled.{zeros-filled, nothing-filled, zeroed-names-alike}
 

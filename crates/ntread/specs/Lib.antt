@@ -2,3 +2,5 @@
 pub mod Reading
 -- What the parts of the code promise one another.
 pub mod Inner
+-- As the lanes are lent.
+pub mod Lent

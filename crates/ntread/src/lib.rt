@@ -3,13 +3,11 @@
 ghost use mathlib.Core.Path.{_≡_};
 ghost use Rattle.table.specs.Lent.{before, after, lent};
 ghost use Rattle.names.specs.Lent.{namesLent, namesBefore, namesAfter};
-ghost use Rattle.ntread.specs.Reading.{ReadingTriples};
 ghost use Rattle.ntread.specs.Inner.{refusedDone, Fresh, ReadNew};
+ghost use Rattle.ntread.specs.Lent.{ReadingTo};
 
 mod lent;
-mod line;
 mod lines;
-mod numbering;
 
 use lent::TOO_LONG;
 use lent::lent_refusal;
@@ -92,7 +90,7 @@ pub fn read_triples(
     ends: &mut [u16],
     text: &mut [u8],
 ) -> TriplesRead
-    ensures { λ r. ⌜ ReadingTriples kind a (now (file .entry)) (before subj pred obj ann) (after subj pred obj ann) (namesBefore terms ends text) (namesAfter terms ends text) (r .number) (r .place) (r .count) (r .names) ⌝ }
+    ensures { λ r. ⌜ ReadingTo kind a (now (file .entry)) subj pred obj ann terms ends text r ⌝ }
 {
     let number = lent_refusal(kind, a, file, subj, pred, obj, ann, terms, ends, text);
     if number == LANES_UNFIT {

@@ -33,23 +33,12 @@ use Rattle.nttext.proofs.Canonical.{text-append}
 use Rattle.nttext.proofs.LegalTexts.{legal-read, sort-few}
 use Rattle.ntread.specs.Reading.{LineAt, lineAt, linesFrom}
 use Rattle.ntriples.specs.Writing.{hasText, isUnwritable, rowsWritable, fileBytes, writeChecks}
+use Rattle.ntnumber.proofs.Numbers.{meant-sort}
 use Rattle.ntriples.specs.Shown.{meantOf, meantTerm, tripleOf, tripleSaid, canonicalTerm, canonicalLine, LinesMean, ended, T3}
 use Rattle.ntriples.proofs.Eols.{NoEol, no-eol-append, object-text, marked-no-eol}
 use Rattle.ntriples.proofs.Lined.{line-first}
 
 -- ---- a legal text
-
-sort-by : (k : ℕ) (a b c : List ℕ) (m : grammar.Sort) → k ≤ 2 →
-    sortOfTerm (cond (eqb k 0) (grammar.Term.name a) (cond (eqb k 1) (grammar.Term.blank b) (grammar.Term.literal c m))) ≡ k
-unfolding sortOfTerm
-sort-by zero a b c m h = refl
-sort-by (suc zero) a b c m h = refl
-sort-by (suc (suc zero)) a b c m h = refl
-sort-by (suc (suc (suc k))) a b c m h = absurd (omega arith)
-
-pub sort-of-meant : (s : Source) → s .sort ≤ 2 → sortOfTerm (meantBy s) ≡ s .sort
-unfolding meantBy
-sort-of-meant s h = sort-by (s .sort) _ _ _ _ h
 
 -- a text as the grammar reads it, behind its marks
 pub record Heard (sort : ℕ) (text : List ℕ) : Type 0 where
@@ -75,7 +64,7 @@ legal-heard sort text h =
     let all : AllCharacters cs = subst AllCharacters (sym parts) (all-append (t .space) (t .object) (white-all (t .white)) (object-all (t .has))) in
     record {
       term = t .term;
-      sort-is = ap sortOfTerm (sym (t .meant)) ∙ sort-of-meant S (read .is-term) ∙ read .sort-is;
+      sort-is = ap sortOfTerm (sym (t .meant)) ∙ meant-sort S (read .is-term) ∙ read .sort-is;
       text-is = ap textOfTerm (sym (t .meant)) ∙ read .text-is;
       space = t .space;
       white = t .white;

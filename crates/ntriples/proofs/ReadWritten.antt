@@ -29,7 +29,8 @@ use Rattle.names.specs.Entering.{bytesOf}
 use Rattle.ntline.specs.Grammar as grammar
 use Rattle.nttext.specs.Texts.{textOfTerm, sortOfTerm, isLegalText}
 use Rattle.nttext.proofs.LegalTexts.{text-legal}
-use Rattle.ntread.specs.Reading.{LineAt, linesFrom, Room, roomOf, lentChecks, readFile, endsFrom, textsOf, filledNames}
+use Rattle.ntenter.specs.Line.{Room, roomOf}
+use Rattle.ntread.specs.Reading.{LineAt, linesFrom, lentChecks, readFile, endsFrom, textsOf, filledNames}
 use Rattle.ntriples.specs.Writing.{hasText, isUnwritable, rowsWritable, fileBytes, writeChecks}
 use Rattle.ntriples.specs.Shown.{Triple, meantOf, tripleOf, tripleSaid, InRows, InLines, InFile, linesChecks, T5}
 use Rattle.ntriples.proofs.Rows.{rows-pass}

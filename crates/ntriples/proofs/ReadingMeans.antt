@@ -26,7 +26,8 @@ use Rattle.names.specs.Entering.{bytesOf, Made}
 use Rattle.ntline.specs.Grammar.{Said, Term}
 use Rattle.ntline.specs.Lines.{Heard}
 use Rattle.ntline.proofs.Encoded.{line-heard, heard-line}
-use Rattle.ntread.specs.Reading.{LineAt, linesFrom, Read, Room, roomOf, lentChecks, whenDone, readLines, readFile, ReadingTriples}
+use Rattle.ntenter.specs.Line.{Read, Room, roomOf}
+use Rattle.ntread.specs.Reading.{LineAt, linesFrom, lentChecks, whenDone, readLines, readFile, ReadingTriples}
 use Rattle.ntriples.specs.Shown.{Triple, tripleOf, tripleSaid, InRows, InLines, ReadingMeans, T1, metAfter, differentTriples, heardIn, triplesSaid, triplesIn, linesChecks, T2}
 use Rattle.ntriples.proofs.ReadingMeansMet.{In, here, later, in-none, in-one, in-front, in-behind, in-either}
 use Rattle.ntriples.proofs.ReadingMeansHeld.{Holds, stands-means}

@@ -6,7 +6,8 @@ use lib.ListN.{replicate}
 use Rattle.ground.specs.Lists.{Every}
 use Rattle.table.specs.Rows.{row, Lanes, lanes, addRow}
 use Rattle.names.specs.Names.{entry, NameLanes, lanesOf, textIn}
-use Rattle.ntread.specs.Reading.{Read, refused, readAs, linesFrom, readLines, readFile, endsFrom}
+use Rattle.ntenter.specs.Line.{Read, refused, readAs}
+use Rattle.ntread.specs.Reading.{linesFrom, readLines, readFile, endsFrom}
 use Rattle.ntriples.specs.Writing.{fileBytes}
 use Rattle.term.specs.Refusal.{first}
 use Rattle.annotation.specs.Kinds.{algebra, isKind}

@@ -18,7 +18,7 @@ use Rattle.names.specs.Names.{Entry}
 use Rattle.names.specs.Entering.{sameText, Lookup, known, Made}
 use Rattle.names.proofs.Same.{both-true, same-is, is-same}
 use Rattle.names.proofs.Meaning.{known-means}
-use Rattle.ntread.specs.Reading.{Room}
+use Rattle.ntenter.specs.Line.{Room}
 use Rattle.ntriples.specs.Shown.{Meant, meantOf, Triple, tripleOf, isAmong, metAfter, sameMeant, sameTriple, differentTexts, differentTriples}
 use Rattle.ntriples.proofs.ReadingMeansMet.{In, here, later, in-none, in-front, in-behind, in-either, in-one, met-append, among-in, in-among, in-met, met-all}
 use Rattle.ntriples.proofs.ReadingMeansRows.{add-there, add-longer, in-added, still-in, added-in, NewKey}

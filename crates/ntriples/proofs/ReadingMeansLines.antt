@@ -27,7 +27,8 @@ use Rattle.ntline.specs.Lines.{Heard, lineOf, saidBy}
 use Rattle.ntline.proofs.Encoded.{heard-line}
 use Rattle.nttext.specs.Texts.{textOfTerm, sortOfTerm, Has}
 use Rattle.nttext.proofs.LegalTexts.{sort-few}
-use Rattle.ntread.specs.Reading.{LineAt, Read, refused, Room, enterTerm, addTriple, whenRoom, readLine, readLines}
+use Rattle.ntenter.specs.Line.{Read, refused, Room, enterTerm, addTriple, whenRoom, readLine}
+use Rattle.ntread.specs.Reading.{LineAt, readLines}
 use Rattle.ntriples.specs.Shown.{Meant, meantTerm, Triple, tripleSaid, metAfter, sameMeant, besides, textsIn, bytesIn, differentTexts, differentTriples, textsFit, rowsFit, heardIn, isWrong, triplesSaid, triplesIn, lineChecks, linesChecks}
 use Rattle.ntriples.proofs.ReadingMeansMet.{met-append, met-grown}
 use Rattle.ntriples.proofs.ReadingMeansTexts.{Kept, Keeps, fits, kept-fits, bytes-append, metWith, Fate, goes, full, enter-fate}

@@ -20,7 +20,7 @@ use Rattle.names.proofs.Meaning.{known-stays, entering-known, numberAnswered}
 use Rattle.ntline.specs.Grammar.{Term}
 use Rattle.nttext.specs.Texts.{textOfTerm, sortOfTerm, isLegalText, Has}
 use Rattle.nttext.proofs.LegalTexts.{sort-few, text-legal}
-use Rattle.ntread.specs.Reading.{Read, refused, Room, whenEntered, enterTerm}
+use Rattle.ntenter.specs.Line.{Read, refused, Room, whenEntered, enterTerm}
 use Rattle.ntriples.specs.Shown.{Meant, meantTerm, isAmong, metAfter, sameMeant, isFive, besides, bytesIn}
 
 -- ---- entries as what they mean

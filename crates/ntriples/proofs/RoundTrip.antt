@@ -26,7 +26,8 @@ use Rattle.names.proofs.Same.{both-true, same-is}
 use Rattle.ntline.specs.Grammar as grammar
 use Rattle.ntline.specs.Lines.{Heard, heard}
 use Rattle.ntline.proofs.Encoded.{line-heard, line-one}
-use Rattle.ntread.specs.Reading.{LineAt, linesFrom, Room, roomOf, lentChecks, readFile}
+use Rattle.ntenter.specs.Line.{Room, roomOf}
+use Rattle.ntread.specs.Reading.{LineAt, linesFrom, lentChecks, readFile}
 use Rattle.ntriples.specs.Writing.{fileBytes, writeChecks}
 use Rattle.ntriples.specs.Shown as shown
 use Rattle.ntriples.specs.Shown.{Meant, Triple, meantOf, tripleOf, tripleSaid, InRows, InLines, isAmong, metAfter, sameMeant, sameTriple, textsIn, differentTexts, differentTriples, bytesIn, textsFit, rowsFit, heardIn, isWrong, triplesSaid, triplesIn, lineChecks, linesChecks, LinesMean, TermIn, TellsApart, ReadBack, T4}

@@ -20,7 +20,8 @@ use Rattle.ntline.specs.Grammar.{Said, Term, LineSays}
 use Rattle.ntline.specs.Lines.{Heard, lineOf, saidBy}
 use Rattle.ntwrite.specs.Written.{marked}
 use Rattle.nttext.specs.Texts.{textOfTerm, sortOfTerm, isLegalText}
-use Rattle.ntread.specs.Reading.{LineAt, linesFrom, Read, Room, roomOf, lentChecks, readFile, filledNames}
+use Rattle.ntenter.specs.Line.{Read, Room, roomOf}
+use Rattle.ntread.specs.Reading.{LineAt, linesFrom, lentChecks, readFile, filledNames}
 use Rattle.ntriples.specs.Writing.{writeChecks, fileBytes}
 
 -- t(n): "(sort, text) of number n by a list"

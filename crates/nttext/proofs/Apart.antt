@@ -9,13 +9,14 @@ use lib.Dec.{eqb}
 use lib.ListN.{drop}
 use Rattle.utf8.specs.Texts.{AllCharacters}
 use Rattle.ground.specs.Lists.{All}
+use Rattle.utf8.proofs.Judged.{low-character}
 use Rattle.ntline.specs.Grammar as grammar
 use Rattle.ntline.specs.Escapes.{resolved}
 use Rattle.ntline.specs.Lexing.{tokenOf}
 use Rattle.ntline.specs.Lines.{Source, source, spaced, inner, typedOf, literalOf, sourceOf}
 use Rattle.ntline.proofs.Resolving.{raw-resolved}
 use Rattle.ntline.proofs.Hearing.{iri-inner}
-use Rattle.ntline.proofs.Encoded.{low, all-append, sign, iri-all, string-all, blank-all, tag-all, white-all}
+use Rattle.ntline.proofs.Encoded.{all-append, sign, iri-all, string-all, blank-all, tag-all, white-all}
 use Rattle.ntline.proofs.Sound.{spaced-sound}
 use Rattle.nttext.proofs.Given.{iri-chars, iriref-chars, string-chars, iri-before, string-before}
 use Rattle.nttext.proofs.Plain.{Bare, all-bare, bare-characters, bare-resolved, label-plain, tag-plain, white-bare}
@@ -58,7 +59,7 @@ nothing-given = tt
 
 -- a sign that is no backslash
 sign-given : (c : ℕ) → c ≤ 0xD7FF → eqb c 0x5C ≡ false → (cs : List ℕ) → Gives cs → Gives (c ∷ cs)
-sign-given c h e cs g = subst AllCharacters (sym (raw-resolved c cs e (low c h))) (sign c h (resolved 0 0 cs) g)
+sign-given c h e cs g = subst AllCharacters (sym (raw-resolved c cs e (low-character c h))) (sign c h (resolved 0 0 cs) g)
 
 bare-given : (cs rest : List ℕ) → All Bare cs → Gives rest → Gives (cs ++ rest)
 bare-given cs rest h g = subst AllCharacters (sym (bare-resolved cs rest h)) (all-append cs (resolved 0 0 rest) (bare-characters cs h) g)

@@ -1,23 +1,22 @@
 -- A text laid part by part, where it fits. Assumes nothing.
 use mathlib.Core.Path.{_≡_, refl, sym, ap, _∙_}
-use mathlib.Core.Bool.{Bool, true, false, not, false≢true, true≢false}
+use mathlib.Core.Bool.{Bool, true, false, not, _&&_, false≢true, true≢false}
 use mathlib.Core.List.{List, [], _∷_, _++_, append-nil, append-assoc}
 use Prim.Native.Nat.{ℕ, _+_, _-_, _≤_, _<_}
 use native.Mathlib.Omega.{arith}
-use lib.Dec.{eqb, leb}
-use lib.ListN.{length, take, drop, set, length-append, take-append-drop}
-use lib.Seq.{slice, slice-empty, take-at, take-take, length-take-le}
-use borrow.Author.Tests.{le-leb, lt-leb, leb-true, leb-false, eqb-true, eqb-false, eq-eqb, ne-eqb}
+use lib.Dec.{eqb, leb, ltb}
+use lib.ListN.{length, take, drop, set, length-append, length-drop, take-append-drop}
+use lib.Seq.{slice, paste, length-slice, take-at, take-all, take-take, length-take-le}
+use borrow.Author.Tests.{le-leb, lt-leb, leb-true, leb-false, eqb-true, eqb-false, eq-eqb, ne-eqb, ltb-false}
 use Rattle.field.specs.Numbers.{written}
 use Rattle.field.proofs.Writing.{length-written, written-on, written-one}
 use Rattle.utf8.specs.Characters.{charBytes}
-use Rattle.utf8.specs.Texts.{charsOf, seen}
-use Rattle.utf8.proofs.Texts.{chars-nil}
+use Rattle.utf8.proofs.Seeing.{slice-take}
 use Rattle.ntline.specs.Escapes.{part}
-use Rattle.nttext.specs.declared.texts.Cursor.{Cursor}
-use Rattle.nttext.specs.Laying.{laid}
+use Rattle.nttext.specs.declared.texts.Front.{Front}
 use Rattle.nttext.specs.Standing.{LaidIn}
-use Rattle.nttext.specs.Inner.{slashed, unitOf, cursorAt, Given, Advanced, Lies, spanText}
+use Rattle.nttext.specs.Inner.{slashed, unitOf, spanText, Lays, FrontLaid}
+use Rattle.nttext.proofs.Runs.{lays-then, laid-end}
 
 module _ (out : List ℕ) where
   take-written : (at : ℕ) (text : List ℕ) → at ≤ length out → take at (written out at text) ≡ take at out
@@ -148,52 +147,74 @@ laid-low {text = text} {out = out} {at = at} l =
     let long = l .as-long in
     omega arith
 
--- ---- the loop
+pub laid-inside : {text out after : List ℕ} {at to : ℕ} (fits : Bool) → LaidIn text out after at fits to → fits ≡ true → to ≤ length after
+laid-inside true l e = laid-low l
+laid-inside false l e = absurd (false≢true e)
 
-pub record LayLoop (b : List ℕ) (from to : ℕ) (quoted : Bool) (out : List ℕ) (at : ℕ) (k : Cursor) (last : ℕ) (now : List ℕ) : Type 0 where
-  pub laid-yet : List ℕ
-  pub inside : k .at ≤ to
-  pub given : Given (k .left) (k .number) (seen b (k .at) to)
-  pub lays : spanText b from to quoted ≡ laid-yet ++ laid quoted (k .left) (k .number) (seen b (k .at) to)
-  pub lies : LaidIn laid-yet out now at true last
+-- ---- bytes as they stand
 
-pub laid-end : (b : List ℕ) (quoted : Bool) (left number at to : ℕ) → at ≡ to → laid quoted left number (seen b at to) ≡ []
-unfolding laid
-laid-end b quoted left number at to e =
-    ap (laid quoted left number) (ap (λ (n : ℕ). charsOf (slice n to b)) e ∙ ap charsOf (slice-empty to b) ∙ chars-nil)
+module _ (b : List ℕ) (from to : ℕ) (rises : from ≤ to) (inside : to ≤ length b) where
+  -- the source from the run on, as it is lent
+  lent-part : take (length b - from) (drop from b) ≡ drop from b
+  lent-part = take-all (length b - from) (drop from b) (let d = length-drop from b in omega arith)
+
+  pub run-long : to - from ≤ length (take (length b - from) (drop from b))
+  run-long = rw lent-part (let d = length-drop from b in omega arith)
+
+  run-size : length (slice from to b) ≡ to - from
+  run-size = length-slice from to b inside
+
+  pub run-misfits : (out : List ℕ) (at n : ℕ) → at ≤ length out → length out - at < to - from → LaidIn (slice from to b) out out at false n
+  run-misfits out at n h fits = lays-not out (slice from to b) at n (omega (arith, run-size))
+
+  pub run-laid : (out after : List ℕ) (at : ℕ) → at ≤ length out → to - from ≤ length out - at → after ≡ paste out at (take (length b - from) (drop from b)) (to - from) →
+      LaidIn (slice from to b) out after at true (at + (to - from))
+  unfolding written
+  run-laid out after at h fits e =
+      let t : take (to - from) (drop from b) ≡ slice from to b = sym (slice-take from to b rises) in
+      let bytes : after ≡ written out at (slice from to b) = e ∙ ap (λ (p : List ℕ). paste out at p (to - from)) lent-part ∙ rw (t, run-size) refl in
+      lays-all out (slice from to b) after at (at + (to - from)) (omega (arith, run-size)) (omega (arith, run-size)) bytes
+
+-- ---- one part behind another
 
 module _ (b : List ℕ) (from to : ℕ) (quoted : Bool) (out : List ℕ) (at : ℕ) where
-  pub lay-start : (k : Cursor) → k ≡ cursorAt from 0 0 0 part → Lies b from to → at ≤ length out → LayLoop b from to quoted out at k at out
-  lay-start k e l h =
-      rw e (record { laid-yet = []; inside = l .rising; given = l .given; lays = refl; lies = lays-none out at h })
+  pub front-on : (u mid after : List ℕ) (i last : ℕ) (fits : Bool) (r : Front) → Lays b from to quoted u i → LaidIn u out mid at fits last → fits ≡ true →
+      FrontLaid b i to quoted mid after last r → FrontLaid b from to quoted out after at r
+  front-on u mid after i last false r x l e f = absurd (false≢true e)
+  front-on u mid after i last true r x l e f =
+      record { text = u ++ f .text; lays = lays-then x (f .lays); lies = lays-both out u (f .text) mid after at last (r .to) (r .fits) l (f .lies) }
 
-  pub lay-goes : (k r : Cursor) (last next : ℕ) (now after : List ℕ) (fits : Bool) → LayLoop b from to quoted out at k last now → Advanced b to quoted k r →
-      LaidIn (unitOf (r .slash) (r .value)) now after last fits next → not fits ≡ false → LayLoop b from to quoted out at r next after
-  lay-goes k r last next now after false l a u e = absurd (true≢false e)
-  lay-goes k r last next now after true l a u e =
-      record {
-        laid-yet = l .laid-yet ++ unitOf (r .slash) (r .value);
-        inside = a .within;
-        given = a .goes (l .given);
-        lays =
-            l .lays ∙ ap (λ (x : List ℕ). l .laid-yet ++ x) (a .lays)
-            ∙ sym (append-assoc (l .laid-yet) (unitOf (r .slash) (r .value)) (laid quoted (r .left) (r .number) (seen b (r .at) to)));
-        lies = lays-both out (l .laid-yet) (unitOf (r .slash) (r .value)) now after at last next true (l .lies) u;
-      }
+  pub front-none : from ≤ to → at ≤ length out → FrontLaid b from to quoted out out at (record { fits = true; at = from; to = at })
+  front-none h l = record {
+    text = [];
+    lays = record { later = omega arith; within = h; lays = refl; goes = λ g. g };
+    lies = lays-none out at l;
+  }
 
-  pub lay-stops : (k r : Cursor) (last next : ℕ) (now after : List ℕ) (fits : Bool) → LayLoop b from to quoted out at k last now → Advanced b to quoted k r →
-      LaidIn (unitOf (r .slash) (r .value)) now after last fits next → not fits ≡ true → LaidIn (spanText b from to quoted) out after at fits next
-  lay-stops k r last next now after true l a u e = absurd (false≢true e)
-  lay-stops k r last next now after false l a u e =
-      let rest : List ℕ = laid quoted (r .left) (r .number) (seen b (r .at) to) in
-      let unit : List ℕ = unitOf (r .slash) (r .value) in
-      let whole : spanText b from to quoted ≡ l .laid-yet ++ (unit ++ rest) = l .lays ∙ ap (λ (x : List ℕ). l .laid-yet ++ x) (a .lays) in
-      rw whole (lays-both out (l .laid-yet) (unit ++ rest) now after at last next false (l .lies) (lays-first now unit rest after after last next next u))
+  pub span-stops : (after : List ℕ) (r : Front) → FrontLaid b from to quoted out after at r → not (r .fits) ≡ true → LaidIn (spanText b from to quoted) out after at false (r .to)
+  span-stops after r f e = rw (f .lays .lays) (go (r .fits) (f .lies) e)
+    where
+      go : (fits : Bool) → LaidIn (f .text) out after at fits (r .to) → not fits ≡ true → LaidIn (f .text ++ spanText b (r .at) to quoted) out after at false (r .to)
+      go true l e = absurd (false≢true e)
+      go false l e = lays-first out (f .text) (spanText b (r .at) to quoted) after after at (r .to) (r .to) l
 
-  pub lay-ends : (k : Cursor) (last : ℕ) (now : List ℕ) → LayLoop b from to quoted out at k last now → to ≤ k .at →
-      LaidIn (spanText b from to quoted) out now at true last
-  lay-ends k last now l h =
-      let e : k .at ≡ to = omega (arith, l .inside) in
-      let whole : spanText b from to quoted ≡ l .laid-yet
-      = l .lays ∙ ap (λ (x : List ℕ). l .laid-yet ++ x) (laid-end b quoted (k .left) (k .number) (k .at) to e) ∙ append-nil (l .laid-yet) in
-      rw whole (l .lies)
+  pub span-on : (mid after : List ℕ) (last : ℕ) (fits : Bool) (r : Front) → FrontLaid b from to quoted out mid at r → not (r .fits) ≡ false →
+      LaidIn (spanText b (r .at) to quoted) mid after (r .to) fits last → LaidIn (spanText b from to quoted) out after at fits last
+  span-on mid after last fits r f e m = rw (f .lays .lays) (go (r .fits) (f .lies) e)
+    where
+      go : (some : Bool) → LaidIn (f .text) out mid at some (r .to) → not some ≡ false → LaidIn (f .text ++ spanText b (r .at) to quoted) out after at fits last
+      go true l e = lays-both out (f .text) (spanText b (r .at) to quoted) mid after at (r .to) last fits l m
+      go false l e = absurd (true≢false e)
+
+  all-laid : (fits : Bool) (text rest after : List ℕ) (last : ℕ) → LaidIn text out after at fits last → (fits ≡ true → rest ≡ []) → LaidIn (text ++ rest) out after at fits last
+  all-laid false text rest after last l e = lays-first out text rest after after at last last l
+  all-laid true text rest after last l e = rw (e refl, append-nil text) l
+
+  pub front-ends : (after : List ℕ) (r : Front) → FrontLaid b from to quoted out after at r → (r .fits && ltb (r .at) to) ≡ false →
+      LaidIn (spanText b from to quoted) out after at (r .fits) (r .to)
+  front-ends after r f e =
+      rw (f .lays .lays)
+      (all-laid (r .fits) (f .text) (spanText b (r .at) to quoted) after (r .to) (f .lies)
+      (λ t.
+      let past : ltb (r .at) to ≡ false = ap (λ (x : Bool). x && ltb (r .at) to) (sym t) ∙ e in
+      laid-end b quoted 0 0 (r .at) to (omega (arith, f .lays .within, ltb-false (r .at) to past))))

@@ -6,22 +6,15 @@ use Prim.Native.Nat.{ℕ}
 use lib.Dec.{eqb}
 use Rattle.utf8.specs.Characters.{isCharacter}
 use Rattle.utf8.specs.Texts.{AllCharacters}
-use Rattle.ntline.specs.Classes.{isIriChar, isBarred, isStringChar}
+use Rattle.ntline.specs.Classes.{isIriChar, isStringChar}
 use Rattle.ntline.specs.Grammar as grammar
 use Rattle.ntline.specs.Escapes.{resolved}
 use Rattle.ntline.proofs.Bools.{differs}
-use Rattle.ntline.proofs.Resolving.{iri-character, string-character, raw-resolved, uchar-resolved, echar-resolved}
-
-iri-slash : isIriChar 0x5C ≡ false
-unfolding isIriChar isBarred isCharacter
-iri-slash = refl
-
-string-slash : isStringChar 0x5C ≡ false
-unfolding isStringChar isCharacter
-string-slash = refl
+use Rattle.ntline.proofs.Resolving.{iri-character, string-slash, string-character, raw-resolved, uchar-resolved, echar-resolved}
+use Rattle.nttext.proofs.Laying.{slash-barred}
 
 pub iri-no-slash : (c : ℕ) → isIriChar c ≡ true → eqb c 0x5C ≡ false
-iri-no-slash c ok = differs isIriChar c 0x5C iri-slash ok
+iri-no-slash c ok = differs isIriChar c 0x5C slash-barred ok
 
 pub string-no-slash : (c : ℕ) → isStringChar c ≡ true → eqb c 0x5C ≡ false
 string-no-slash c ok = differs isStringChar c 0x5C string-slash ok

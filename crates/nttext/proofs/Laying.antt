@@ -12,7 +12,7 @@ use Rattle.ntline.specs.Grammar.{UCHAR, ECHAR, IriChars, StringChars}
 use Rattle.ntline.specs.Escapes.{part, fed, echarOf, openedBy, fedBy}
 use Rattle.ntline.proofs.Bools.{differs}
 use Rattle.ntline.proofs.Digits.{digits-given, not-part}
-use Rattle.ntline.proofs.Resolving.{iri-character, string-character}
+use Rattle.ntline.proofs.Resolving.{iri-character, string-slash, string-character}
 use Rattle.nttext.specs.Texts.{canonical, canonicalBytes}
 use Rattle.nttext.specs.Laying.{unitBytes, laid}
 
@@ -46,7 +46,7 @@ quote-barred : isIriChar 0x22 ≡ false
 unfolding isIriChar isBarred isCharacter
 quote-barred = refl
 
-slash-barred : isIriChar 0x5C ≡ false
+pub slash-barred : isIriChar 0x5C ≡ false
 unfolding isIriChar isBarred isCharacter
 slash-barred = refl
 
@@ -95,10 +95,6 @@ iri-laid (IriChars.uchar {c = c} {escape = e} {source = s} {iri = iri} u ok d is
     ∙ ap (λ (l : List ℕ). l ++ laid false 0 0 (s ++ rest)) (iri-canonical c ok)
     ∙ ap (λ (l : List ℕ). charBytes c ++ l) (iri-laid d rest)
     ∙ sym (append-assoc (charBytes c) (textBytes iri) (laid false 0 0 rest))
-
-string-slash : isStringChar 0x5C ≡ false
-unfolding isStringChar isCharacter
-string-slash = refl
 
 string-quote : isStringChar 0x22 ≡ false
 unfolding isStringChar isCharacter

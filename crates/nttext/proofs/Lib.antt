@@ -12,10 +12,12 @@ pub mod LegalStates
 pub mod FiveNames
 -- and on the code.
 pub mod Units
+pub mod Runs
 pub mod Filling
 pub mod Matching
 pub mod Places
 pub mod Parts
 pub mod Behind
+pub mod PlainTexts
 pub mod Judging
 pub mod Standing

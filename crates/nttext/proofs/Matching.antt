@@ -6,8 +6,8 @@ use Prim.Native.Nat.{ℕ, suc, _+_, _-_, _≤_, _<_}
 use native.Mathlib.Numerals.{add-one}
 use native.Mathlib.Omega.{arith}
 use lib.Dec.{eqb}
-use lib.ListN.{length, getD, drop, length-append}
-use lib.Seq.{slice, slice-empty, slice-cons, length-slice}
+use lib.ListN.{length, getD, take, drop, length-append}
+use lib.Seq.{slice, slice-empty, slice-cons, length-slice, getD-take, getD-drop, ext-getD}
 use borrow.Author.Tests.{eqb-true, eqb-false, eq-eqb, ne-eqb}
 use Rattle.utf8.specs.Characters.{isCharacter, charBytes}
 use Rattle.utf8.specs.Texts.{charsOf, seen, SeenAt}
@@ -16,11 +16,12 @@ use Rattle.utf8.proofs.Texts.{chars-whole}
 use Rattle.utf8.proofs.Seeing.{slice-join}
 use Rattle.names.specs.Entering.{sameText}
 use Rattle.names.proofs.Same.{is-same, not-same}
+use Rattle.names.specs.Finding.{SameIn}
 use Rattle.ntline.specs.Escapes.{part}
+use Rattle.ntline.specs.Runs.{plainByte, Run}
 use Rattle.nttext.specs.declared.texts.Cursor.{Cursor}
-use Rattle.nttext.specs.Laying.{laid}
-use Rattle.nttext.specs.Inner.{unitOf, cursorAt, Given, Advanced, Lies, spanText, MatchedIn}
-use Rattle.nttext.proofs.Filling.{laid-end}
+use Rattle.nttext.specs.Inner.{unitOf, spanText, MatchedIn, Lays, UnitAt, SameRun}
+use Rattle.nttext.proofs.Runs.{run-lays, lays-then, laid-end}
 
 same-front : (u a b : List ℕ) → sameText (u ++ a) (u ++ b) ≡ sameText a b
 unfolding sameText
@@ -173,47 +174,77 @@ module _ (out : List ℕ) (at end : ℕ) where
           let there = length-slice at end out high in
           sym (longer-other text (slice at end out) (omega (arith, m .rising refl, m .within refl, no)))
 
--- ---- the loop
+-- ---- a run of plain bytes
 
-pub record MatchLoop (b : List ℕ) (from to : ℕ) (quoted : Bool) (out : List ℕ) (at end : ℕ) (k : Cursor) (last : ℕ) : Type 0 where
-  pub matched-yet : List ℕ
-  pub inside : k .at ≤ to
-  pub given : Given (k .left) (k .number) (seen b (k .at) to)
-  pub lays : spanText b from to quoted ≡ matched-yet ++ laid quoted (k .left) (k .number) (seen b (k .at) to)
-  pub matched : MatchedIn matched-yet out at end true last
+byte-in : (f t k : ℕ) (l : List ℕ) → f + k < t → getD (slice f t l) k 0 ≡ getD l (f + k) 0
+byte-in f t k l h = getD-drop f (take t l) k 0 ∙ getD-take t l (f + k) 0 h
 
-module _ (b : List ℕ) (from to : ℕ) (quoted : Bool) (out : List ℕ) (at end : ℕ) where
-  pub match-start : (k : Cursor) → k ≡ cursorAt from 0 0 0 part → Lies b from to → at ≤ end → MatchLoop b from to quoted out at end k at
-  match-start k e l h =
-      rw e (record { matched-yet = []; inside = l .rising; given = l .given; lays = refl; matched = matches-none out at end h })
+same-slices : (b out : List ℕ) (from at size : ℕ) → from + size ≤ length b → at + size ≤ length out → SameIn b from out at size →
+    slice at (at + size) out ≡ slice from (from + size) b
+same-slices b out from at size h l same =
+    let here = length-slice at (at + size) out l in
+    let there = length-slice from (from + size) b h in
+    ext-getD 0 (slice at (at + size) out) (slice from (from + size) b) (omega (arith, here, there))
+    (λ k m.
+    let n : k < size = omega (arith, here, m) in
+    byte-in at (at + size) k out (omega arith) ∙ sym (same k n) ∙ sym (byte-in from (from + size) k b (omega arith)))
 
-  pub match-goes : (k r : Cursor) (last next : ℕ) (same : Bool) → MatchLoop b from to quoted out at end k last → Advanced b to quoted k r →
-      MatchedIn (unitOf (r .slash) (r .value)) out last end same next → not same ≡ false → MatchLoop b from to quoted out at end r next
-  match-goes k r last next false l a u e = absurd (true≢false e)
-  match-goes k r last next true l a u e =
+module _ (b : List ℕ) (from to : ℕ) (quoted : Bool) (out : List ℕ) (at end : ℕ) (long : to ≤ length b) (low : at ≤ end) (high : end ≤ length out) where
+  pub same-run : (run most size : ℕ) → Run (plainByte quoted) b from to run → (most ≤ run - from) × (most ≤ end - at) → size ≤ most → SameIn b from out at size →
+      SameRun b from to quoted out at end size
+  same-run run most size r few h same =
+      let inside = r .within in
+      let later = r .later in
+      let fits : from + size ≤ run = omega arith in
+      let front : Run (plainByte quoted) b from to (from + size)
+      = record { later = omega arith; within = omega arith; each = λ k l m. r .each k l (omega arith) } in
       record {
-        matched-yet = l .matched-yet ++ unitOf (r .slash) (r .value);
-        inside = a .within;
-        given = a .goes (l .given);
-        lays =
-            l .lays ∙ ap (λ (x : List ℕ). l .matched-yet ++ x) (a .lays)
-            ∙ sym (append-assoc (l .matched-yet) (unitOf (r .slash) (r .value)) (laid quoted (r .left) (r .number) (seen b (r .at) to)));
-        matched = matches-both out at end (l .matched-yet) (unitOf (r .slash) (r .value)) last next true (l .matched) u;
+        lays = run-lays b from to quoted long (from + size) front;
+        there = record {
+          rising = λ _. omega arith;
+          within = λ _. omega arith;
+          there = λ _. same-slices b out from at size (omega arith) (omega arith) same;
+          other = λ e. absurd (true≢false e);
+        };
       }
 
-  pub match-stops : (k r : Cursor) (last next : ℕ) (same : Bool) → MatchLoop b from to quoted out at end k last → Advanced b to quoted k r →
-      MatchedIn (unitOf (r .slash) (r .value)) out last end same next → not same ≡ true → MatchedIn (spanText b from to quoted) out at end same next
-  match-stops k r last next true l a u e = absurd (false≢true e)
-  match-stops k r last next false l a u e =
-      let rest : List ℕ = laid quoted (r .left) (r .number) (seen b (r .at) to) in
-      let unit : List ℕ = unitOf (r .slash) (r .value) in
-      let whole : spanText b from to quoted ≡ l .matched-yet ++ (unit ++ rest) = l .lays ∙ ap (λ (x : List ℕ). l .matched-yet ++ x) (a .lays) in
-      rw whole (matches-both out at end (l .matched-yet) (unit ++ rest) last next false (l .matched) (matches-first out last end unit rest next next u))
+-- ---- part by part
 
-  pub match-ends : (k : Cursor) (last : ℕ) → MatchLoop b from to quoted out at end k last → to ≤ k .at →
-      MatchedIn (spanText b from to quoted) out at end true last
-  match-ends k last l h =
-      let e : k .at ≡ to = omega (arith, l .inside) in
-      let whole : spanText b from to quoted ≡ l .matched-yet
-      = l .lays ∙ ap (λ (x : List ℕ). l .matched-yet ++ x) (laid-end b quoted (k .left) (k .number) (k .at) to e) ∙ append-nil (l .matched-yet) in
-      rw whole (l .matched)
+pub record MatchLoop (b : List ℕ) (from to : ℕ) (quoted : Bool) (out : List ℕ) (at end i last : ℕ) : Type 0 where
+  pub text : List ℕ
+  pub lays : Lays b from to quoted text i
+  pub there : MatchedIn text out at end true last
+
+module _ (b : List ℕ) (from to : ℕ) (quoted : Bool) (out : List ℕ) (at end : ℕ) where
+  pub match-start : (size : ℕ) → SameRun b from to quoted out at end size → MatchLoop b from to quoted out at end (from + size) (at + size)
+  match-start size r = record { text = slice from (from + size) b; lays = r .lays; there = r .there }
+
+  -- a character, and the run behind it
+  pub match-goes : (i last mid size : ℕ) (k : Cursor) (same : Bool) → MatchLoop b from to quoted out at end i last → UnitAt b i to quoted k →
+      MatchedIn (unitOf (k .slash) (k .value)) out last end same mid → not same ≡ false → SameRun b (k .at) to quoted out mid end size →
+      MatchLoop b from to quoted out at end (k .at + size) (mid + size)
+  match-goes i last mid size k false l u m e r = absurd (true≢false e)
+  match-goes i last mid size k true l u m e r =
+      let unit = unitOf (k .slash) (k .value) in
+      let run = slice (k .at) (k .at + size) b in
+      record {
+        text = (l .text ++ unit) ++ run;
+        lays = lays-then (lays-then (l .lays) (u .lays)) (r .lays);
+        there = matches-both out at end (l .text ++ unit) run mid (mid + size) true (matches-both out at end (l .text) unit last mid true (l .there) m) (r .there);
+      }
+
+  pub match-stops : (i last mid : ℕ) (k : Cursor) (same : Bool) → MatchLoop b from to quoted out at end i last → UnitAt b i to quoted k →
+      MatchedIn (unitOf (k .slash) (k .value)) out last end same mid → not same ≡ true → MatchedIn (spanText b from to quoted) out at end same mid
+  match-stops i last mid k true l u m e = absurd (false≢true e)
+  match-stops i last mid k false l u m e =
+      let unit = unitOf (k .slash) (k .value) in
+      let rest = spanText b (k .at) to quoted in
+      let whole : spanText b from to quoted ≡ l .text ++ (unit ++ rest) = l .lays .lays ∙ ap (λ (x : List ℕ). l .text ++ x) (u .lays .lays) in
+      rw whole (matches-both out at end (l .text) (unit ++ rest) last mid false (l .there) (matches-first out last end unit rest mid mid m))
+
+  pub match-ends : (i last : ℕ) → MatchLoop b from to quoted out at end i last → to ≤ i → MatchedIn (spanText b from to quoted) out at end true last
+  match-ends i last l h =
+      let e : i ≡ to = omega (arith, l .lays .within) in
+      let whole : spanText b from to quoted ≡ l .text
+      = l .lays .lays ∙ ap (λ (x : List ℕ). l .text ++ x) (laid-end b quoted 0 0 i to e) ∙ append-nil (l .text) in
+      rw whole (l .there)

@@ -25,7 +25,7 @@ use Rattle.nttext.specs.Inner.{Given, Lies, spanText}
 use Rattle.ntline.proofs.Hearing.{up-to, inner-is}
 use Rattle.nttext.proofs.Apart.{Apart}
 use Rattle.nttext.proofs.Canonical.{text-append}
-use Rattle.nttext.proofs.Filling.{laid-end}
+use Rattle.nttext.proofs.Runs.{laid-end}
 
 -- ---- characters and bytes
 

@@ -67,6 +67,7 @@ module _ (b : List ℕ) (end : ℕ) (quoted : Bool) (k : Cursor) (v n : ℕ) (s 
         lays = laid-step ∙ rw e refl;
         good = λ g x. absurd (x refl);
         goes = λ g. subst AllCharacters same g;
+        over = λ x. absurd (x refl);
       }
 
   module _ (no : f .out ≡ part → ⊥) where
@@ -100,6 +101,7 @@ module _ (b : List ℕ) (end : ℕ) (quoted : Bool) (k : Cursor) (v n : ℕ) (s 
           lays = lays ∙ ap (λ (l : List ℕ). l ++ laid quoted 0 0 (seen b n end)) (raw-lays (isDropped quoted (f .out)));
           good = λ g x. raw-good (isDropped quoted (f .out)) (out-given g .0) x;
           goes = λ g. out-given g .1;
+          over = λ x. (refl, refl);
         })
 
     pub advance-escaped : (k .left ≡ 0 → ⊥) → (slash value : ℕ) → Canonical (f .out) slash value → (r : Cursor) → r ≡ cursorAt n 0 0 slash value →
@@ -116,4 +118,5 @@ module _ (b : List ℕ) (end : ℕ) (quoted : Bool) (k : Cursor) (v n : ℕ) (s 
           lays = lays ∙ ap (λ (l : List ℕ). l ++ laid quoted 0 0 (seen b n end)) unit;
           good = λ g x. c .good (out-given g .0);
           goes = λ g. out-given g .1;
+          over = λ x. (refl, refl);
         })

@@ -15,10 +15,11 @@ use Rattle.ntline.specs.Escapes.{part, resolved}
 use Rattle.ntline.specs.Grammar.{Term}
 use Rattle.ntline.specs.Lexing.{step}
 use Rattle.nttext.specs.declared.texts.Cursor.{Cursor}
+use Rattle.nttext.specs.declared.texts.Front.{Front}
 use Rattle.nttext.specs.declared.texts.Bounds.{Bounds}
 use Rattle.nttext.specs.Texts.{canonical, textOfTerm}
 use Rattle.nttext.specs.Laying.{laid}
-use Rattle.nttext.specs.Standing.{Stands}
+use Rattle.nttext.specs.Standing.{Stands, LaidIn}
 
 -- a character of a text, with a backslash before it or not
 abbrev pub slashed : ℕ → ℕ → List ℕ
@@ -50,6 +51,7 @@ pub record Advanced (b : List ℕ) (end : ℕ) (quoted : Bool) (k r : Cursor) : 
   pub lays : laid quoted (k .left) (k .number) (seen b (k .at) end) ≡ unitOf (r .slash) (r .value) ++ laid quoted (r .left) (r .number) (seen b (r .at) end)
   pub good : Given (k .left) (k .number) (seen b (k .at) end) → (r .value ≡ part → ⊥) → isCharacter (r .value) ≡ true
   pub goes : Given (k .left) (k .number) (seen b (k .at) end) → Given (r .left) (r .number) (seen b (r .at) end)
+  pub over : (r .value ≡ part → ⊥) → (r .left ≡ 0) × (r .number ≡ 0)
 
 -- a source lies from one position to another
 pub record Lies (b : List ℕ) (from to : ℕ) : Type 0 where
@@ -65,6 +67,31 @@ pub record MatchedIn (text out : List ℕ) (at end : ℕ) (same : Bool) (to : �
   pub within : same ≡ true → to ≤ end
   pub there : same ≡ true → slice at to out ≡ text
   pub other : same ≡ false → (more : List ℕ) → sameText (text ++ more) (slice at end out) ≡ false
+
+-- up to a position a source lays a text
+pub record Lays (b : List ℕ) (from to : ℕ) (quoted : Bool) (text : List ℕ) (at : ℕ) : Type 0 where
+  pub later : from ≤ at
+  pub within : at ≤ to
+  pub lays : spanText b from to quoted ≡ text ++ spanText b at to quoted
+  pub goes : Given 0 0 (seen b from to) → Given 0 0 (seen b at to)
+
+-- the next character of a text, or none at the end of its source
+pub record UnitAt (b : List ℕ) (from to : ℕ) (quoted : Bool) (r : Cursor) : Type 0 where
+  pub passes : from < r .at
+  pub low : r .slash ≤ 1
+  pub lays : Lays b from to quoted (unitOf (r .slash) (r .value)) (r .at)
+  pub good : Given 0 0 (seen b from to) → (r .value ≡ part → ⊥) → isCharacter (r .value) ≡ true
+
+-- what a text has up to a position of its source, laid
+pub record FrontLaid (b : List ℕ) (from to : ℕ) (quoted : Bool) (out after : List ℕ) (at : ℕ) (r : Front) : Type 0 where
+  pub text : List ℕ
+  pub lays : Lays b from to quoted text (r .at)
+  pub lies : LaidIn text out after at (r .fits) (r .to)
+
+-- so many plain bytes of a source stand in bytes from a position on
+pub record SameRun (b : List ℕ) (from to : ℕ) (quoted : Bool) (out : List ℕ) (at end size : ℕ) : Type 0 where
+  pub lays : Lays b from to quoted (slice from (from + size) b) (from + size)
+  pub there : MatchedIn (slice from (from + size) b) out at end true (at + size)
 
 -- where the text of a term lies
 pub record PartsOf (b : List ℕ) (end : ℕ) (t : Span) (p : Bounds) : Type 0 where

@@ -4,12 +4,14 @@ ghost use mathlib.Core.Bool.{true, false};
 ghost use mathlib.Core.List.{_∷_};
 ghost use Prim.Native.Nat.{_≤_, _<_};
 ghost use lib.ListN.{length};
+ghost use lib.Seq.{slice};
 ghost use Rattle.utf8.specs.Characters.{isCharacter, charBytes};
 ghost use Rattle.names.specs.Entering.{sameText};
 ghost use Rattle.ntline.specs.Escapes.{part};
 ghost use Rattle.nttext.specs.Laying.{isDropped, xsdMark};
 ghost use Rattle.nttext.specs.Standing.{StandsThere, LaidIn, TermLaid, TermCompared};
-ghost use Rattle.nttext.specs.Inner.{cursorAt, unitOf, Canonical, Advanced, Lies, spanText, MatchedIn, PartsOf};
+ghost use Rattle.nttext.specs.Inner.{cursorAt, unitOf, Canonical, Advanced, Lies, spanText, MatchedIn, UnitAt, FrontLaid, SameRun, PartsOf};
+use names::texts::put;
 use ntline::classes::is_white;
 use ntline::escapes::PART;
 use ntline::escapes::choose;
@@ -18,6 +20,7 @@ use ntline::lines::BLANK;
 use ntline::lines::LITERAL;
 use ntline::lines::NAME;
 use ntline::lines::Span;
+use ntline::runs::plain_run;
 use utf8::encode::put_char;
 use utf8::encode::size_of;
 use utf8::see;
@@ -152,31 +155,119 @@ fn lay(out: &mut [u8], at: usize, slash: usize, value: u32) -> Laid
     }
 }
 
-// The text of the source from `from` up to `to`, laid into `out` from `at` on.
+// The next character of a text, behind what leaves nothing; or the end of its source.
+fn unit(b: &[u8], from: usize, to: usize, quoted: bool) -> Cursor
+    requires { ⌜ (from < to) × (to ≤ length (now b)) ⌝ }
+    ensures { λ r. ⌜ UnitAt (now (b .entry)) from to quoted r ⌝ }
+{
+    let mut k = behind(from, 0, PART);
+    while (k.value == PART) & (k.at < to) {
+        k = advance(b, to, quoted, k);
+    }
+    k
+}
+
+// Bytes of the source as they stand, laid.
+fn lay_run(b: &[u8], from: usize, to: usize, out: &mut [u8], at: usize) -> Laid
+    requires { ⌜ (from ≤ to) × (to ≤ length (now b)) × (at ≤ length (now out)) ⌝ }
+    ensures { λ r. ⌜ LaidIn (slice from to (now (b .entry))) (now (out .entry)) (now (out .exit)) at (r .fits) (r .to) ⌝ }
+{
+    let size = to - from;
+    if out.len() - at < size {
+        return Laid {
+            fits: false,
+            to: at,
+        };
+    }
+    put(out, at, &b[from..], size);
+    Laid {
+        fits: true,
+        to: at + size,
+    }
+}
+
+// What a text has up to a position of its source, laid: whether it fits, and where it ends.
+pub struct Front {
+    pub fits: bool,
+    pub at: usize,
+    pub to: usize,
+}
+
+// A run of plain bytes, laid.
+fn lay_plain(b: &[u8], from: usize, to: usize, quoted: bool, out: &mut [u8], at: usize) -> Front
+    requires { ⌜ (from ≤ to) × (to ≤ length (now b)) × (at ≤ length (now out)) ⌝ }
+    ensures { λ r. ⌜ FrontLaid (now (b .entry)) from to quoted (now (out .entry)) (now (out .exit)) at r ⌝ }
+{
+    let run = plain_run(b, from, to, quoted);
+    let laid = lay_run(b, from, run, out, at);
+    Front {
+        fits: laid.fits,
+        at: run,
+        to: laid.to,
+    }
+}
+
+// What stands between two runs, and the run behind it.
+fn lay_next(b: &[u8], from: usize, to: usize, quoted: bool, out: &mut [u8], at: usize) -> Front
+    requires { ⌜ (from < to) × (to ≤ length (now b)) × (at ≤ length (now out)) × Lies (now b) from to ⌝ }
+    ensures { λ r. ⌜ FrontLaid (now (b .entry)) from to quoted (now (out .entry)) (now (out .exit)) at r × (from < r .at) ⌝ }
+{
+    let k = unit(b, from, to, quoted);
+    let laid = lay(out, at, k.slash, k.value);
+    if !laid.fits {
+        return Front {
+            fits: laid.fits,
+            at: k.at,
+            to: laid.to,
+        };
+    }
+    lay_plain(b, k.at, to, quoted, out, laid.to)
+}
+
+// The text of the source from `from` up to `to`, laid, a character and a run at a time.
+fn lay_rest(b: &[u8], from: usize, to: usize, quoted: bool, out: &mut [u8], at: usize) -> Laid
+    requires { ⌜ (to ≤ length (now b)) × (at ≤ length (now out)) × Lies (now b) from to ⌝ }
+    ensures { λ r. ⌜ LaidIn (spanText (now (b .entry)) from to quoted) (now (out .entry)) (now (out .exit)) at (r .fits) (r .to) ⌝ }
+{
+    let mut front = Front {
+        fits: true,
+        at: from,
+        to: at,
+    };
+    while front.fits & (front.at < to) {
+        front = lay_next(b, front.at, to, quoted, out, front.to);
+    }
+    Laid {
+        fits: front.fits,
+        to: front.to,
+    }
+}
+
+// The text of the source from `from` up to `to`, laid into `out` from `at` on. Most texts are one run.
 fn lay_span(b: &[u8], from: usize, to: usize, quoted: bool, out: &mut [u8], at: usize) -> Laid
     requires { ⌜ (to ≤ length (now b)) × (at ≤ length (now out)) × Lies (now b) from to ⌝ }
     ensures { λ r. ⌜ LaidIn (spanText (now (b .entry)) from to quoted) (now (out .entry)) (now (out .exit)) at (r .fits) (r .to) ⌝ }
 {
-    let mut k = behind(from, 0, PART);
-    let mut last = at;
-    while k.at < to {
-        k = advance(b, to, quoted, k);
-        let laid = lay(out, last, k.slash, k.value);
-        if !laid.fits {
-            return laid;
-        }
-        last = laid.to;
+    let front = lay_plain(b, from, to, quoted, out, at);
+    if !front.fits {
+        return Laid {
+            fits: false,
+            to: front.to,
+        };
     }
-    Laid {
-        fits: true,
-        to: last,
-    }
+    lay_rest(b, front.at, to, quoted, out, front.to)
 }
 
 // Whether a text stands in bytes from a position on, and where it then ends.
 pub struct Matched {
     pub same: bool,
     pub to: usize,
+}
+
+fn least(a: usize, b: usize) -> usize
+    ensures { λ r. ⌜ (r ≤ a) × (r ≤ b) ⌝ }
+{
+    if a < b { a } else { b }
 }
 
 fn differs(at: usize) -> Matched
@@ -229,6 +320,30 @@ fn matches(out: &[u8], at: usize, end: usize, slash: usize, value: u32) -> Match
     match_char(out, at, end, value)
 }
 
+// How many plain bytes from `from` on stand in `out` from `at` on.
+fn same_run(
+    b: &[u8],
+    from: usize,
+    to: usize,
+    quoted: bool,
+    out: &[u8],
+    at: usize,
+    end: usize,
+) -> usize
+    requires { ⌜ (from ≤ to) × (to ≤ length (now b)) × (at ≤ end) × (end ≤ length (now out)) ⌝ }
+    ensures { λ r. ⌜ SameRun (now (b .entry)) from to quoted (now (out .entry)) at end r ⌝ }
+{
+    let most = least(plain_run(b, from, to, quoted) - from, end - at);
+    let mut k = 0;
+    while k < most {
+        if b[from + k] != out[at + k] {
+            return k;
+        }
+        k += 1;
+    }
+    k
+}
+
 // Whether the text of the source from `from` up to `to` stands in `out` from `at` on, by `end`.
 fn match_span(
     b: &[u8],
@@ -242,15 +357,18 @@ fn match_span(
     requires { ⌜ (to ≤ length (now b)) × (at ≤ end) × (end ≤ length (now out)) × Lies (now b) from to ⌝ }
     ensures { λ r. ⌜ MatchedIn (spanText (now (b .entry)) from to quoted) (now (out .entry)) at end (r .same) (r .to) ⌝ }
 {
-    let mut k = behind(from, 0, PART);
-    let mut last = at;
-    while k.at < to {
-        k = advance(b, to, quoted, k);
+    let size = same_run(b, from, to, quoted, out, at, end);
+    let mut i = from + size;
+    let mut last = at + size;
+    while i < to {
+        let k = unit(b, i, to, quoted);
         let m = matches(out, last, end, k.slash, k.value);
         if !m.same {
             return m;
         }
-        last = m.to;
+        let more = same_run(b, k.at, to, quoted, out, m.to, end);
+        i = k.at + more;
+        last = m.to + more;
     }
     Matched {
         same: true,

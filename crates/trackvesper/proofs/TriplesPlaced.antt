@@ -17,7 +17,8 @@ use Rattle.table.specs.Checks.{tripleChecks, rowChecks, rowsChecks, isNotAbove,
 use Rattle.table.proofs.Judging.{triple-at}
 use Rattle.names.specs.Names.{Entry, NameLanes, entriesOf, isUnfitList}
 use Rattle.names.proofs.Same.{both-true}
-use Rattle.ntread.specs.Reading.{Read, linesFrom, readLines, roomOf, lentChecks, whenDone, readFile, ReadingTriples}
+use Rattle.ntenter.specs.Line.{Read, roomOf}
+use Rattle.ntread.specs.Reading.{linesFrom, readLines, lentChecks, whenDone, readFile, ReadingTriples}
 use Rattle.ntread.proofs.Bounded.{lines-bounded, places-within}
 use Rattle.ntriples.specs.Writing.{isUnwritable, rowsWritable, fileBytes, writeChecks, WritingTriples}
 use Rattle.trackvesper.specs.ClosedBook.{aNumber, packed}

@@ -18,7 +18,7 @@ use Rattle.utf8.proofs.Texts.{bad-is-none, chars-nil, chars-whole, char
 
 -- ---- parts of lists
 
-drop-take : (f n : ℕ) (l : List ℕ) → drop f (take (f + n) l) ≡ take n (drop f l)
+pub drop-take : (f n : ℕ) (l : List ℕ) → drop f (take (f + n) l) ≡ take n (drop f l)
 drop-take zero n l = rw (zero-add n) refl
 drop-take (suc f) n [] = ap (drop (suc f)) (take-nil (suc f + n)) ∙ sym (take-nil n)
 drop-take (suc f) n (x ∷ xs) = rw (suc-add f n) (drop-take f n xs)

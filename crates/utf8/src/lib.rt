@@ -25,7 +25,7 @@ pub struct Seen {
 // No character.
 pub const BAD: u32 = 0x110000;
 
-fn wide(byte: u8) -> u32
+pub fn wide(byte: u8) -> u32
     ensures { λ r. ⌜ r ≡ byte ⌝ }
 {
     byte as u32
@@ -69,6 +69,13 @@ pub fn see(b: &[u8], at: usize, end: usize) -> Seen
     requires { ⌜ (at < end) × (end ≤ length (now b)) ⌝ }
     ensures { λ r. ⌜ SeenAt (now (b .entry)) at end (r .value) (r .next) ⌝ }
 {
+    let x = wide(b[at]);
+    if x < 0x80 {
+        return Seen {
+            value: x,
+            next: at + 1,
+        };
+    }
     match char_at(b, at, end) {
         Character::Whole(value, size) => Seen {
             value,

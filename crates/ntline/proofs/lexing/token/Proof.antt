@@ -1,89 +1,49 @@
--- By what holds on the way: the characters seen so far and those that are left give what all of them give.
-use mathlib.Core.Path.{sym, _∙_}
-use Prim.Native.Nat.{_-_}
+-- By its first byte; any other a character at a time.
 use native.Mathlib.Omega.{arith}
+use Rattle.ntline.proofs.Tokens.{dot-token, hats-token}
 use borrow.Author.Needs.{needs}
-use Rattle.ntline.proofs.Tokens.{TokenLoop, loop-start, loop-stops, loop-goes, loop-passes, loop-ends}
 use Rattle.ntline.proofs.lexing.token.Statement.{statement}
 use Rattle.ntline.proofs.lexing.token.Tie as tie
 
-abbrev Inv-loop : tie.InvT-loop
-Inv-loop b at end state₀ kind₀ to₀ i₀ state kind to i = TokenLoop b at end state kind to i
+returns-6 : tie.Need-returns-6
+returns-6 c =
+    let the-args = c .before .before .before .before .before .before .before .before .args in
+    let the-pre = c .before .before .before .before .before .before .before .before .pre in
+    let the-if1 = c .before .before .before .before .before .before .if1 in
+    let the-if6 = c .if6 in
+    dot-token (the-args .b .now) (the-args .at) (the-args .end) (the-pre .1) (omega (arith, the-pre .0, the-if1 .left)) (the-if6 .taken)
 
-abbrev μ-loop : tie.MeasureT-loop
-μ-loop b at end state₀ kind₀ to₀ i₀ state kind to i = end - i
-
-loop-holds : tie.Need-loop-holds Inv-loop μ-loop
-loop-holds c =
-    let the-args = c .before .args in
-    let the-pre = c .before .pre in
-    loop-start (the-args .b .now) (the-args .at) (the-args .end) (the-pre .0)
-
-see-requires : tie.Need-see-requires Inv-loop μ-loop
-see-requires c κs =
-    let the-loop-test = c .loop-test in
-    let the-pre = c .before .before .before .pre in
-    (the-loop-test .taken, the-pre .1)
-
-returns : tie.Need-returns Inv-loop μ-loop
-returns c =
-    let the-args = c .before .before .before .before .before .before .before .args in
-    let the-loop = c .before .before .before .before .before .loop in
-    let the-see = c .before .before .before .see in
-    let the-stepped = c .before .before .stepped in
-    let the-is-dead = c .before .is-dead in
-    let the-if1 = c .if1 in
-    loop-stops (the-args .b .now) (the-args .at) (the-args .end) _ _ _ _ _ _ _ (the-loop .inv) (the-see .ensures) (the-stepped .ensures) (sym (the-is-dead .ensures) ∙ the-if1 .taken)
-
-pass-requires : tie.Need-pass-requires Inv-loop μ-loop
-pass-requires c κs =
-    let the-see = c .before .before .before .before .before .before .see in
-    let the-pre = c .before .before .before .before .before .before .before .before .before .before .pre in
-    (the-see .ensures .within, the-pre .1)
-
-loop-less : tie.Need-loop-less Inv-loop μ-loop
-loop-less c =
-    let the-see = c .before .before .before .before .before .before .before .see in
-    let the-pass = c .pass in
-    let the-loop-test = c .before .before .before .before .before .before .before .before .loop-test in
-    omega (arith, the-see .ensures .later, the-pass .ensures .later, the-pass .ensures .within, the-loop-test .taken)
-
-loop-again : tie.Need-loop-again Inv-loop μ-loop
-loop-again c =
+returns-7 : tie.Need-returns-7
+returns-7 c =
     let the-args = c .before .before .before .before .before .before .before .before .before .before .before .args in
-    let the-loop = c .before .before .before .before .before .before .before .before .before .loop in
-    let the-see = c .before .before .before .before .before .before .before .see in
-    let the-stepped = c .before .before .before .before .before .before .stepped in
-    let the-kind-of = c .before .before .before .kind-of in
-    let the-later-kind = c .before .before .later-kind in
-    let the-later-to = c .before .later-to in
-    let the-pass = c .pass in
-    loop-passes (the-args .b .now) (the-args .at) (the-args .end) _ _ _ _ _
-    (loop-goes (the-args .b .now) (the-args .at) (the-args .end) _ _ _ _ _ _ _ _ _ _ (the-loop .inv) (the-see .ensures) (the-stepped .ensures) (the-kind-of .ensures) (the-later-kind .ensures) (the-later-to .ensures))
-    (the-pass .ensures)
-
-returns-2 : tie.Need-returns-2 Inv-loop μ-loop
-returns-2 c =
-    let the-args = c .before .before .before .args in
-    let the-loop = c .before .loop in
-    let the-loop-test = c .loop-test in
-    loop-ends (the-args .b .now) (the-args .at) (the-args .end) _ _ _ _ (the-loop .inv) (the-loop-test .left)
+    let the-pre = c .before .before .before .before .before .before .before .before .before .before .before .pre in
+    let the-if1 = c .before .before .before .before .before .before .before .before .before .if1 in
+    let the-if7 = c .before .before .if7 in
+    let the-is-byte = c .before .is-byte in
+    let the-if8 = c .if8 in
+    hats-token (the-args .b .now) (the-args .at) (the-args .end) (the-pre .1) (omega (arith, the-pre .0, the-if1 .left)) (the-if7 .taken)
+    (the-is-byte .ensures (the-if8 .taken) .0) (the-is-byte .ensures (the-if8 .taken) .1)
 
 pub token-spec : {M : Type 1} → statement M
 token-spec =
     tie.close
     (tie.spec
-    Inv-loop
-    μ-loop
-    loop-holds
-    see-requires
     (λ c κs. search needs)
+    (λ c. search needs)
+    (λ c. search needs)
     (λ c κs. search needs)
-    returns
+    (λ c. search needs)
     (λ c κs. search needs)
+    (λ c. search needs)
     (λ c κs. search needs)
+    (λ c. search needs)
     (λ c κs. search needs)
-    pass-requires
-    loop-less
-    loop-again
-    returns-2)
+    (λ c. search needs)
+    (λ c. search needs)
+    returns-6
+    (λ c. search needs)
+    (λ c κs. search needs)
+    (λ c. search needs)
+    returns-7
+    (λ c κs. search needs)
+    (λ c. search needs))

@@ -5,7 +5,7 @@ use lib.ListN.{length}
 use Rattle.table.specs.Rows.{lanes}
 use Rattle.names.specs.Names.{lanesOf, entriesOf}
 use Rattle.names.specs.Hashed.{Hashed}
-use Rattle.ntread.proofs.HashKept.{hashed-none}
+use Rattle.ntnumber.proofs.HashKept.{hashed-none}
 use Rattle.ntread.proofs.Reached.{Reached, reached-start, reached-into, reached-skip, reached-line, reached-stop, reached-end}
 use borrow.Author.Needs.{needs}
 use Rattle.ntread.proofs.lines.read_lines.Statement.{statement}

@@ -32,9 +32,6 @@ returns c =
     let the-if1 = c .if1 in
     bare-stops (the-args .text .now) (the-args .from) (the-args .to) (the-args .first) _ _ _ _ (the-loop .inv) (the-see .ensures) (the-if1 .taken)
 
-stepped-requires : tie.Need-stepped-requires Inv-loop μ-loop
-stepped-requires c κs = search needs
-
 loop-less : tie.Need-loop-less Inv-loop μ-loop
 loop-less c =
     let the-see = c .before .before .before .see in
@@ -65,7 +62,7 @@ state-behind-spec =
     loop-holds
     see-requires
     returns
-    stepped-requires
+    (λ c κs. search needs)
     loop-less
     loop-again
     returns-2)

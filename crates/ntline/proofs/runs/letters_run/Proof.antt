@@ -1,0 +1,71 @@
+-- The invariant: letters up to here.
+use mathlib.Core.Path.{sym, ap, _∙_}
+use Prim.Native.Nat.{_-_}
+use native.Mathlib.Omega.{arith}
+use borrow.Author.Tests.{not-false}
+use borrow.Author.Needs.{needs}
+use Rattle.ntline.specs.Classes.{isAlpha}
+use Rattle.ntline.specs.Runs.{Run}
+use Rattle.ntline.proofs.Passing.{run-none, run-more}
+use Rattle.ntline.proofs.runs.letters_run.Statement.{statement}
+use Rattle.ntline.proofs.runs.letters_run.Tie as tie
+
+abbrev Inv-loop : tie.InvT-loop
+Inv-loop b at end i₀ i = Run isAlpha b at end i
+
+abbrev μ-loop : tie.MeasureT-loop
+μ-loop b at end i₀ i = end - i
+
+loop-holds : tie.Need-loop-holds Inv-loop μ-loop
+loop-holds c =
+    let the-args = c .before .args in
+    let the-pre = c .before .pre in
+    run-none isAlpha (the-args .b .now) (the-args .at) (the-args .end) (the-pre .0)
+
+shared-slice-read-wide : tie.Need-shared-slice-read-wide Inv-loop μ-loop
+shared-slice-read-wide c =
+    let the-pre = c .before .before .before .before .pre in
+    let the-loop-test = c .before .loop-test in
+    omega (arith, the-pre .1, the-loop-test .taken)
+
+returns : tie.Need-returns Inv-loop μ-loop
+returns c =
+    let the-loop = c .before .before .before .before .before .loop in
+    the-loop .inv
+
+loop-less : tie.Need-loop-less Inv-loop μ-loop
+loop-less c =
+    let the-loop-test = c .before .before .before .before .loop-test in
+    omega (arith, the-loop-test .taken)
+
+loop-again : tie.Need-loop-again Inv-loop μ-loop
+loop-again c =
+    let the-args = c .before .before .before .before .before .before .before .args in
+    let the-loop = c .before .before .before .before .before .loop in
+    let the-loop-test = c .before .before .before .before .loop-test in
+    let the-wide = c .before .before .wide in
+    let the-is-alpha = c .before .is-alpha in
+    let the-if1 = c .if1 in
+    run-more isAlpha (the-args .b .now) (the-args .at) (the-args .end) (the-loop .i) (the-loop .inv) (the-loop-test .taken)
+    (ap isAlpha (sym (the-wide .ensures)) ∙ sym (the-is-alpha .ensures) ∙ not-false _ (the-if1 .left))
+
+returns-2 : tie.Need-returns-2 Inv-loop μ-loop
+returns-2 c =
+    let the-loop = c .before .loop in
+    the-loop .inv
+
+pub letters-run-spec : {M : Type 1} → statement M
+letters-run-spec =
+    tie.close
+    (tie.spec
+    Inv-loop
+    μ-loop
+    loop-holds
+    shared-slice-read-wide
+    (λ c κs. search needs)
+    (λ c κs. search needs)
+    returns
+    (λ c. search needs)
+    loop-less
+    loop-again
+    returns-2)

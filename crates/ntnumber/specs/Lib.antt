@@ -1,0 +1,3 @@
+-- The definitions that the contracts of `ntnumber` cite.
+pub mod Numbering
+pub mod Lent

@@ -1,0 +1,13 @@
+-- A table and a names list as they are lent: where a call begins and where it ends.
+use mathlib.Core.List.{List}
+use Prim.Native.Nat.{ℕ}
+use Rattle.table.specs.Lent.{before, after}
+use Rattle.names.specs.Lent.{namesBefore, namesAfter}
+use Rattle.ntenter.specs.Lent.{Lent}
+use Rattle.ntread.specs.declared.TriplesRead.{TriplesRead}
+use Rattle.ntread.specs.Reading.{ReadingTriples}
+
+abbrev pub ReadingTo : ℕ → ℕ → List ℕ → Lent → Lent → Lent → Lent → Lent → Lent → Lent → TriplesRead → Type 0
+ReadingTo kind a file subj pred obj ann terms ends text r =
+    ReadingTriples kind a file (before subj pred obj ann) (after subj pred obj ann) (namesBefore terms ends text) (namesAfter terms ends text)
+    (r .number) (r .place) (r .count) (r .names)
