@@ -3,7 +3,7 @@
 #include <stdlib.h>
 #include "trackvesper.h"
 
-enum { MOST_IN = 65536, MOST_OUT = 7 + 17 * 1024, HEAD = 7, FIELD = 17 };
+enum { MOST_IN = TRACKVESPER_MOST_INPUT + 1, MOST_OUT = TRACKVESPER_MOST_CLOSED_BOOK, FIELD = 17 };
 
 static uint64_t number_at(const uint8_t *bytes, size_t at, size_t width)
 {
@@ -15,9 +15,11 @@ static uint64_t number_at(const uint8_t *bytes, size_t at, size_t width)
 
 static void print_book(const uint8_t *book, size_t length)
 {
+    /* Tag and length, and as much as the length says: 7 bytes, or 8 in edition 2. */
+    size_t head = 3 + (size_t)number_at(book, 1, 2);
     printf("closed %llu %llu %zu\n", (unsigned long long)number_at(book, 4, 1),
-           (unsigned long long)number_at(book, 5, 2), (length - HEAD) / FIELD);
-    for (size_t at = HEAD; at + FIELD <= length; at += FIELD)
+           (unsigned long long)number_at(book, 5, 2), (length - head) / FIELD);
+    for (size_t at = head; at + FIELD <= length; at += FIELD)
         printf("%llu %llu %llu %llu\n", (unsigned long long)number_at(book, at + 3, 2),
                (unsigned long long)number_at(book, at + 5, 2), (unsigned long long)number_at(book, at + 7, 2),
                (unsigned long long)number_at(book, at + 9, 8));

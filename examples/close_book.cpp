@@ -16,7 +16,8 @@ static std::uint64_t number_at(const std::vector<std::uint8_t> &bytes, std::size
 
 static void print_book(const std::vector<std::uint8_t> &book)
 {
-    const std::size_t head = 7, field = 17;
+    // Tag and length, and as much as the length says: 7 bytes, or 8 in edition 2.
+    const std::size_t head = 3 + static_cast<std::size_t>(number_at(book, 1, 2)), field = 17;
     std::cout << "closed " << number_at(book, 4, 1) << ' ' << number_at(book, 5, 2) << ' ' << (book.size() - head) / field << '\n';
     for (std::size_t at = head; at + field <= book.size(); at += field)
         std::cout << number_at(book, at + 3, 2) << ' ' << number_at(book, at + 5, 2) << ' ' << number_at(book, at + 7, 2) << ' '

@@ -20,13 +20,13 @@ extern "C" {
 #endif
 
 /* The version of the library that this header belongs to. */
-#define TRACKVESPER_VERSION "2.0.0"
+#define TRACKVESPER_VERSION "3.0.0"
 
 /* Sizes: the most that is ever looked at or needed. */
 enum {
     TRACKVESPER_MOST_INPUT = 65535,      /* bytes of a book or of a makers' list */
     TRACKVESPER_MOST_ROWS = 1024,        /* rows of a table */
-    TRACKVESPER_MOST_CLOSED_BOOK = 17415, /* bytes of a closed book: 7 and 17 for each of 1,024 rows */
+    TRACKVESPER_MOST_CLOSED_BOOK = 17416, /* bytes of a closed book: 8 and 17 for each of 1,024 rows */
     TRACKVESPER_MOST_NAMES = 512,        /* entries of a list of names */
     TRACKVESPER_MOST_TEXT = 32768,       /* bytes of its texts */
     TRACKVESPER_MOST_STEPS = 48,         /* steps of a compiled question, and the records that compiling wants lent */
@@ -46,11 +46,17 @@ enum {
     TRACKVESPER_SHEETS = 5 /* six sheets; bit k: the sheets whose numbers are the set bits of k are enough together */
 };
 
+/* Rule sets: which rules closing draws by. */
+enum {
+    TRACKVESPER_BASIC_RULES = 1,     /* of every book of edition 1, and of one of edition 2 that says so */
+    TRACKVESPER_REFLEXIVE_RULES = 2  /* these and the reflexive lines that have a premise; in a book of edition 2 */
+};
+
 /* Numbers given back by these calls. 0 is done; the README has the whole list, with the places. */
 enum {
     TRACKVESPER_DONE = 0,
     TRACKVESPER_CUT = 1,            /* a book ends inside a field */
-    TRACKVESPER_HEAD = 2,           /* no head first, a head of another length, a second head */
+    TRACKVESPER_HEAD = 2,           /* no head first, a head of another length than its edition has, a second head */
     TRACKVESPER_EDITION = 3,
     TRACKVESPER_KIND = 4,           /* no such kind of annotation */
     TRACKVESPER_BASE_YEAR = 5,
@@ -76,6 +82,7 @@ enum {
     TRACKVESPER_NOT_NTRIPLES = 26,  /* a line is not N-Triples */
     TRACKVESPER_NAMES_FULL = 27,    /* a text that is new finds no entry or too few bytes */
     TRACKVESPER_MISSES_LARGER = 28, /* sheets: a combination is enough and a larger one is not */
+    TRACKVESPER_RULE_SET = 36,      /* no such rule set */
     TRACKVESPER_NO_TEXT = 39        /* a row's subject is a literal, or one of its terms has no text */
 };
 
@@ -93,19 +100,21 @@ uint8_t trackvesper_add(uint8_t kind, uint16_t *subj, size_t subj_length, uint16
                         uint16_t *obj, size_t obj_length, uint64_t *ann, size_t ann_length, size_t *count,
                         uint16_t s, uint16_t p, uint16_t o, uint64_t a, size_t *place);
 
-/* Reads a book into the lanes: a new table. */
+/* Reads a book into the lanes: a new table. *kind, *base, *rules and *count are 0 after a refusal. */
 uint8_t trackvesper_read(const uint8_t *book, size_t book_length, uint16_t *subj, size_t subj_length,
                          uint16_t *pred, size_t pred_length, uint16_t *obj, size_t obj_length, uint64_t *ann, size_t ann_length,
-                         size_t *place, uint8_t *kind, uint16_t *base, size_t *count);
+                         size_t *place, uint8_t *kind, uint16_t *base, uint8_t *rules, size_t *count);
 
-/* Writes a table as a book, 7 + 17 * count bytes. A refusal changes nothing. */
-uint8_t trackvesper_write(uint8_t kind, uint16_t base, const uint16_t *subj, size_t subj_length,
+/* Writes a table as a book: 7 + 17 * count bytes, or 8 + 17 * count in rule set 2, whose head has a byte more. A refusal changes
+ * nothing. */
+uint8_t trackvesper_write(uint8_t kind, uint16_t base, uint8_t rules, const uint16_t *subj, size_t subj_length,
                           const uint16_t *pred, size_t pred_length, const uint16_t *obj, size_t obj_length,
                           const uint64_t *ann, size_t ann_length, size_t count, uint8_t *out, size_t out_length,
                           size_t *place, size_t *length);
 
-/* Closes a table; *count goes in as the table's count and comes out as the new one. Less than 24 KB of stack. */
-uint8_t trackvesper_close(uint8_t kind, uint16_t *subj, size_t subj_length, uint16_t *pred, size_t pred_length,
+/* Closes a table under a rule set: 4, 36, then as the check, then 12; *count goes in as the table's count and comes out as the new one.
+ * Less than 28 KB of stack. */
+uint8_t trackvesper_close(uint8_t kind, uint8_t rules, uint16_t *subj, size_t subj_length, uint16_t *pred, size_t pred_length,
                           uint16_t *obj, size_t obj_length, uint64_t *ann, size_t ann_length, size_t *count, size_t *place);
 
 /* A step: what it does (0 SEEK, 1 FORK, 2 GO, 3 TEST, 4 GIVE), a test's mark, a target, then mark and number of each slot. */
@@ -157,12 +166,12 @@ uint8_t trackvesper_ask(uint8_t kind, const uint16_t *subj, size_t subj_length, 
 static inline uint32_t trackvesper_number(uint64_t answer) { return (uint32_t)(answer >> 32); }
 static inline uint32_t trackvesper_rest(uint64_t answer) { return (uint32_t)(answer & 0xFFFFFFFFu); }
 
-/* Reads the book, works out what follows from it and writes the closed book to out.
+/* Reads the book, works out what follows from it under its rule set and writes the closed book to out.
  *
  * The answer is number * 2^32 + rest. Number 0 is done, and rest is the length written; the bytes of out past
  * it are left as they were. Any other number is a refusal, rest is its place in the book, and out is untouched.
- * There is room for 1,024 rows; a closed book of n rows is 7 + 17 * n bytes, so TRACKVESPER_MOST_CLOSED_BOOK
- * bytes of output are always enough. It needs less than 40 KB of stack. */
+ * There is room for 1,024 rows; a closed book of n rows is 7 + 17 * n bytes, 8 + 17 * n in rule set 2, so
+ * TRACKVESPER_MOST_CLOSED_BOOK bytes of output are always enough. It needs less than 48 KB of stack. */
 uint64_t trackvesper_close_book(const uint8_t *book, size_t book_length, uint8_t *out, size_t out_length);
 
 /* Reads a file of N-Triples into a new table and a new list of names; every row gets the annotation.

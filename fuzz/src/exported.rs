@@ -7,8 +7,8 @@ use trial::export;
 /// The call itself, as C sees it.
 pub type Call = unsafe extern "C" fn(*const u8, usize, *mut u8, usize) -> u64;
 
-/// The longest closed book, 7 + 17 * 1,024 bytes.
-const LONGEST: usize = 17_415;
+/// The longest closed book: 8 + 17 * 1,024 bytes, in rule set 2.
+const LONGEST: usize = 17_416;
 
 /// Calls it on a book and an output of exactly their own lengths.
 fn close(call: Call, book: &[u8], out: &mut [u8]) -> u64 {
@@ -19,6 +19,15 @@ fn close(call: Call, book: &[u8], out: &mut [u8]) -> u64 {
 /// Bytes that no closed book is likely to hold in the same order.
 fn pattern(length: usize) -> Vec<u8> {
     (0..length).map(|at| (at * 151 + 77) as u8).collect()
+}
+
+/// The length of the head that a written book begins with: edition 1, or edition 2 with rule set 2.
+fn head_length(written: &[u8]) -> Option<usize> {
+    match written {
+        [1, 0, 4, 1, ..] => Some(7),
+        [1, 0, 5, 2, _, _, _, 2, ..] => Some(8),
+        _ => None,
+    }
 }
 
 /// Hands the input over and judges what comes back.
@@ -40,7 +49,9 @@ pub fn judge(call: Call, input: &[u8]) -> Result<(), Fault> {
         must(rest == 0 || rest < book.len(), || format!("place outside the book: {}", said()))?;
         must(out[..] == before[..], || format!("refused, and output changed: {}", said()))?;
     } else {
-        must(rest <= room && rest >= 7 && (rest - 7) % 17 == 0 && rest <= LONGEST, || {
+        must(rest <= room && rest <= LONGEST, || format!("no length of a book: {}", said()))?;
+        let head = head_length(&out[..rest]).ok_or_else(|| format!("no head: {}", said()))?;
+        must(rest >= head && (rest - head) % 17 == 0, || {
             format!("no length of a book: {}", said())
         })?;
         must(out[rest..] == before[rest..], || format!("changed past the length: {}", said()))?;

@@ -44,7 +44,7 @@ impl Program {
 }
 
 /// What reading a book, and closing within 1,024 rows, may refuse.
-pub const REFUSALS: [u64; 13] = [1, 2, 3, 4, 5, 6, 7, 8, 9, 10, 12, 13, 28];
+pub const REFUSALS: [u64; 14] = [1, 2, 3, 4, 5, 6, 7, 8, 9, 10, 12, 13, 28, 36];
 
 /// `refused NUMBER PLACE`, with a place within the input.
 fn refusal(input: &[u8], line: &str) -> Result<(), Fault> {
@@ -133,9 +133,7 @@ fn counter_form(input: &[u8], output: &[u8]) -> Result<(), Fault> {
 fn answer(line: &str) -> Result<(), Fault> {
     let numbers = numbers(line)?;
     must(numbers.len() == 24, || format!("not 24 numbers: {line}"))?;
-    must(numbers[..16].iter().all(|term| *term <= 65_535), || {
-        format!("not terms: {line}")
-    })
+    must(numbers[..16].iter().all(|term| *term <= 65_535), || format!("not terms: {line}"))
 }
 
 /// The questions to one table, and the looks each may take, in input that is worth its time.

@@ -167,7 +167,7 @@ pub fn judge_reading(calls: Calls, input: &[u8]) -> Result<(), Fault> {
 
 /// Whether a line begins there: no CR or LF, and behind one or first of all.
 fn line_begins(file: &[u8], place: usize) -> bool {
-    let eol = |at: usize| file.get(at).is_none_or(|byte| matches!(byte, b'\r' | b'\n'));
+    let eol = |at: usize| file.get(at).map_or(true, |byte| matches!(byte, b'\r' | b'\n'));
     !eol(place) && (place == 0 || eol(place - 1))
 }
 
@@ -262,7 +262,7 @@ pub fn judge_writing(calls: Calls, input: &[u8]) -> Result<(), Fault> {
 /// What was written is read (27 only where texts lay over each other) and written: the same lines.
 fn back_and_there(calls: Calls, file: &[u8], count: usize) -> Result<(), Fault> {
     let ends = file.iter().filter(|byte| **byte == b'\n').count();
-    must(ends == count && file.last().is_none_or(|last| *last == b'\n'), || {
+    must(ends == count && file.last().map_or(true, |last| *last == b'\n'), || {
         format!("{ends} lines of {count}: ")
     })?;
     if file.len() > book::LONGEST {

@@ -23,6 +23,37 @@ pub struct Refusal {
     pub place: usize,
 }
 
+/// The rules by which closing draws what follows.
+#[derive(Clone, Copy, Debug, PartialEq, Eq)]
+pub enum RuleSet {
+    /// Rule set 1: that of every book of edition 1.
+    Basic,
+    /// Rule set 2: these and the reflexive lines that have a premise.
+    Reflexive,
+}
+
+impl RuleSet {
+    pub fn number(self) -> u8 {
+        match self {
+            RuleSet::Basic => 1,
+            RuleSet::Reflexive => 2,
+        }
+    }
+}
+
+/// The rule set of a number; 36 where there is none, as the library says.
+impl TryFrom<u8> for RuleSet {
+    type Error = Refusal;
+
+    fn try_from(number: u8) -> Result<RuleSet, Refusal> {
+        match number {
+            1 => Ok(RuleSet::Basic),
+            2 => Ok(RuleSet::Reflexive),
+            _ => Err(Refusal { number: 36, place: 0 }),
+        }
+    }
+}
+
 /// A row of a table.
 #[derive(Clone, Copy, Debug, PartialEq, Eq)]
 pub struct Row {
@@ -41,6 +72,7 @@ pub struct Table {
 #[derive(Clone, Debug, PartialEq, Eq)]
 pub struct Book {
     pub base: u16,
+    pub rules: RuleSet,
     pub table: Table,
 }
 
@@ -66,7 +98,7 @@ pub type NameList = Vec<(u16, String)>;
 /// The calls.
 pub trait Calls {
     fn read(&self, book: &[u8]) -> Result<Book, Refusal>;
-    fn close(&self, table: &Table) -> Result<Table, Refusal>;
+    fn close(&self, rules: RuleSet, table: &Table) -> Result<Table, Refusal>;
     fn ask(&self, table: &Table, question: &[u8], looks: u32) -> Asked;
     fn read_triples(&self, kind: u8, value: u64, file: &[u8])
         -> Result<(Table, NameList), Refusal>;
@@ -160,6 +192,21 @@ pub fn answers(terms: &[u16], anns: &[u64], count: usize) -> Vec<Answer> {
 #[cfg(test)]
 mod tests {
     use super::*;
+
+    #[test]
+    fn rule_sets_have_numbers() {
+        for number in 0..=255 {
+            match RuleSet::try_from(number) {
+                Ok(rules) => assert_eq!(rules.number(), number),
+                Err(refusal) => {
+                    assert_eq!(refusal, Refusal { number: 36, place: 0 });
+                    assert!(![1, 2].contains(&number));
+                }
+            }
+        }
+        assert_eq!(RuleSet::try_from(1), Ok(RuleSet::Basic));
+        assert_eq!(RuleSet::try_from(2), Ok(RuleSet::Reflexive));
+    }
 
     #[test]
     fn rows_go_into_lanes_and_back() {

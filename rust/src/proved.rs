@@ -4,7 +4,7 @@
 //! length, a place for an answer as a pointer.
 
 use crate::calls::{
-    answers, Asked, Book, Calls, Lanes, NameLanes, NameList, Refusal, Row, Table, ANNS,
+    answers, Asked, Book, Calls, Lanes, NameLanes, NameList, Refusal, Row, RuleSet, Table, ANNS,
     MOST_ANSWERS, ROOM, TERMS,
 };
 
@@ -15,7 +15,7 @@ extern "C" {
         book: *const u8, book_length: usize,
         subj: *mut u16, subj_length: usize, pred: *mut u16, pred_length: usize,
         obj: *mut u16, obj_length: usize, ann: *mut u64, ann_length: usize,
-        place: *mut usize, kind: *mut u8, base: *mut u16, count: *mut usize,
+        place: *mut usize, kind: *mut u8, base: *mut u16, rules: *mut u8, count: *mut usize,
     ) -> u8;
 
     fn trackvesper_check(
@@ -33,7 +33,7 @@ extern "C" {
     ) -> u8;
 
     fn trackvesper_write(
-        kind: u8, base: u16,
+        kind: u8, base: u16, rules: u8,
         subj: *const u16, subj_length: usize, pred: *const u16, pred_length: usize,
         obj: *const u16, obj_length: usize, ann: *const u64, ann_length: usize,
         count: usize, out: *mut u8, out_length: usize,
@@ -45,7 +45,7 @@ extern "C" {
     ) -> u64;
 
     fn trackvesper_close(
-        kind: u8,
+        kind: u8, rules: u8,
         subj: *mut u16, subj_length: usize, pred: *mut u16, pred_length: usize,
         obj: *mut u16, obj_length: usize, ann: *mut u64, ann_length: usize,
         count: *mut usize, place: *mut usize,
@@ -100,9 +100,9 @@ fn unpacked(word: u64) -> Result<usize, Refusal> {
     }
 }
 
-/// What a book of so many rows takes: a head of 7 bytes, and 17 for each row.
+/// What a book of so many rows takes at most: a head of 7 bytes, or 8 in rule set 2, and 17 for each row.
 const fn book_size(rows: usize) -> usize {
-    7 + 17 * rows
+    8 + 17 * rows
 }
 
 /// Calls beside those that a text form needs.
@@ -150,7 +150,7 @@ impl Proved {
         // SAFETY: the slices are live for the call, the output borrowed for it alone, and none overlap.
         let number = unsafe {
             trackvesper_write(
-                book.table.kind, book.base,
+                book.table.kind, book.base, book.rules.number(),
                 lanes.subj.as_ptr(), lanes.subj.len(), lanes.pred.as_ptr(), lanes.pred.len(),
                 lanes.obj.as_ptr(), lanes.obj.len(), lanes.ann.as_ptr(), lanes.ann.len(),
                 book.table.rows.len(), out.as_mut_ptr(), out.len(), &mut place, &mut length,
@@ -161,7 +161,7 @@ impl Proved {
         Ok(out)
     }
 
-    /// The bytes of a book with what follows from it.
+    /// The bytes of a book with what follows from it by its rule set.
     pub fn close_book(&self, book: &[u8]) -> Result<Vec<u8>, Refusal> {
         let mut out = vec![0; book_size(ROOM)];
         // SAFETY: as above.
@@ -177,7 +177,7 @@ impl Proved {
 impl Calls for Proved {
     fn read(&self, book: &[u8]) -> Result<Book, Refusal> {
         let mut lanes = Lanes::zero();
-        let (mut place, mut kind, mut base, mut count) = (0, 0, 0, 0);
+        let (mut place, mut kind, mut base, mut rules, mut count) = (0, 0, 0, 0, 0);
         // SAFETY: the slices are live for the call, the lanes borrowed for it alone, and none
         // overlap.
         let number = unsafe {
@@ -185,20 +185,21 @@ impl Calls for Proved {
                 book.as_ptr(), book.len(),
                 lanes.subj.as_mut_ptr(), lanes.subj.len(), lanes.pred.as_mut_ptr(), lanes.pred.len(),
                 lanes.obj.as_mut_ptr(), lanes.obj.len(), lanes.ann.as_mut_ptr(), lanes.ann.len(),
-                &mut place, &mut kind, &mut base, &mut count,
+                &mut place, &mut kind, &mut base, &mut rules, &mut count,
             )
         };
         refusal(number, place)?;
-        Ok(Book { base, table: Table { kind, rows: lanes.rows(count) } })
+        let rules = RuleSet::try_from(rules)?;
+        Ok(Book { base, rules, table: Table { kind, rows: lanes.rows(count) } })
     }
 
-    fn close(&self, table: &Table) -> Result<Table, Refusal> {
+    fn close(&self, rules: RuleSet, table: &Table) -> Result<Table, Refusal> {
         let mut lanes = Lanes::of(&table.rows);
         let (mut count, mut place) = (table.rows.len(), 0);
         // SAFETY: as above.
         let number = unsafe {
             trackvesper_close(
-                table.kind,
+                table.kind, rules.number(),
                 lanes.subj.as_mut_ptr(), lanes.subj.len(), lanes.pred.as_mut_ptr(), lanes.pred.len(),
                 lanes.obj.as_mut_ptr(), lanes.obj.len(), lanes.ann.as_mut_ptr(), lanes.ann.len(),
                 &mut count, &mut place,

@@ -1,7 +1,7 @@
 //! The proved library through this crate, where it is linked.
 #![cfg(proved)]
 
-use trackvesper::calls::{Book, Calls, Refusal, Row, Table};
+use trackvesper::calls::{Book, Calls, Refusal, Row, RuleSet, Table};
 use trackvesper::proved::Proved;
 
 fn row(triple: [u16; 3], value: u64) -> Row {
@@ -11,11 +11,30 @@ fn row(triple: [u16; 3], value: u64) -> Row {
 /// Lamp 10 is of class 11 in 2003 to 2006, class 11 lies within 12 in 2005 to 2010.
 fn p1() -> Book {
     let rows = vec![row([10, 2, 11], 120), row([11, 1, 12], 2016)];
-    Book { base: 2000, table: Table { kind: 1, rows } }
+    Book { base: 2000, rules: RuleSet::Basic, table: Table { kind: 1, rows } }
+}
+
+/// The same by rule set 2.
+fn p1_reflexive() -> Book {
+    Book { rules: RuleSet::Reflexive, ..p1() }
 }
 
 fn closed() -> Table {
     let rows = vec![row([10, 2, 11], 120), row([10, 2, 12], 96), row([11, 1, 12], 2016)];
+    Table { kind: 1, rows }
+}
+
+fn closed_reflexive() -> Table {
+    let rows = vec![
+        row([0, 0, 0], 2040),
+        row([1, 0, 1], 2040),
+        row([2, 0, 2], 120),
+        row([10, 2, 11], 120),
+        row([10, 2, 12], 96),
+        row([11, 1, 11], 2040),
+        row([11, 1, 12], 2016),
+        row([12, 1, 12], 2016),
+    ];
     Table { kind: 1, rows }
 }
 
@@ -31,9 +50,47 @@ fn a_book_is_written_and_read_back() {
 
 #[test]
 fn a_table_is_closed() {
-    assert_eq!(Proved.close(&p1().table), Ok(closed()));
+    assert_eq!(Proved.close(RuleSet::Basic, &p1().table), Ok(closed()));
     let bytes = Proved.close_book(&Proved.write(&p1()).unwrap()).unwrap();
-    assert_eq!(Proved.read(&bytes), Ok(Book { base: 2000, table: closed() }));
+    assert_eq!(bytes.len(), 58);
+    assert_eq!(Proved.read(&bytes), Ok(Book { table: closed(), ..p1() }));
+}
+
+/// Rule set 2: a head of 8 bytes, and eight rows from two.
+#[test]
+fn a_rule_set_goes_with_the_book() {
+    let bytes = Proved.write(&p1_reflexive()).unwrap();
+    assert_eq!((bytes.len(), &bytes[..8]), (42, &[1, 0, 5, 2, 1, 0x07, 0xD0, 2][..]));
+    assert_eq!(Proved.read(&bytes), Ok(p1_reflexive()));
+    assert_eq!(Proved.close(RuleSet::Reflexive, &p1().table), Ok(closed_reflexive()));
+    let closed = Proved.close_book(&bytes).unwrap();
+    assert_eq!(closed.len(), 144);
+    assert_eq!(Proved.read(&closed), Ok(Book { table: closed_reflexive(), ..p1_reflexive() }));
+    // The longest there is.
+    let rows = (0..1024).map(|at| row([at, 0, at], 7)).collect();
+    let full = Book { table: Table { kind: 1, rows }, ..p1_reflexive() };
+    let bytes = Proved.write(&full).unwrap();
+    assert_eq!(bytes.len(), 17_416);
+    assert_eq!(Proved.read(&bytes), Ok(full));
+}
+
+#[test]
+fn heads_of_edition_2_and_what_is_wrong_with_them() {
+    let number = |bytes: &[u8]| Proved.read(bytes).map(|book| book.rules);
+    let refused = |number: u32| Err(Refusal { number, place: 0 });
+    assert_eq!(number(&[1, 0, 5, 2, 1, 7, 208, 1]), Ok(RuleSet::Basic));
+    assert_eq!(number(&[1, 0, 5, 2, 1, 7, 208, 2]), Ok(RuleSet::Reflexive));
+    assert_eq!(number(&[1, 0, 5, 2, 1, 7, 208, 3]), refused(36));
+    assert_eq!(number(&[1, 0, 5, 1, 1, 7, 208, 1]), refused(2));
+    assert_eq!(number(&[1, 0, 4, 2, 1, 7, 208]), refused(2));
+    assert_eq!(number(&[1, 0, 5, 3, 1, 7, 208, 2]), refused(3));
+    assert_eq!(
+        Proved.close_book(&[1, 0, 5, 2, 1, 7, 208, 3]),
+        Err(Refusal { number: 36, place: 0 })
+    );
+    // Edition 2 with rule set 1 is written back as edition 1.
+    let plain = Proved.close_book(&[1, 0, 5, 2, 1, 7, 208, 1]).unwrap();
+    assert_eq!(plain, [1, 0, 4, 1, 1, 7, 208]);
 }
 
 #[test]

@@ -1,7 +1,7 @@
 //! Books: a head field, then triple fields; reading into lanes and writing from them.
 
 use crate::table::{self, Lanes, Row, Triple, Verdict};
-use crate::{annotation, term};
+use crate::{annotation, rules, term};
 use std::collections::BTreeMap;
 
 /// A longer book is 13.
@@ -11,16 +11,23 @@ pub const LONGEST: usize = 65_535;
 pub struct ReadOut {
     pub number: u32,
     pub place: u64,
-    /// Kind, base year and count are all 0 in a refusal.
+    /// Kind, base year, rule set and count are all 0 in a refusal.
     pub kind: u8,
     pub base: u16,
+    pub rules: u8,
     pub count: usize,
+}
+
+/// What a head says when it is not refused.
+struct Head {
+    kind: u8,
+    base: u16,
+    rules: u8,
 }
 
 /// What the fields of a book say when none is refused.
 struct Contents {
-    kind: u8,
-    base: u16,
+    head: Head,
     map: BTreeMap<Triple, u64>,
 }
 
@@ -38,16 +45,17 @@ pub fn read(book: &[u8], lanes: &mut Lanes) -> ReadOut {
             table::fill(lanes, &[]);
             refused(verdict)
         }
-        Ok(Contents { kind, base, map }) => {
+        Ok(Contents { head: Head { kind, base, rules }, map }) => {
             let rows: Vec<Row> = map.into_iter().collect();
             table::fill(lanes, &rows);
-            ReadOut { number: 0, place: 0, kind, base, count: rows.len() }
+            ReadOut { number: 0, place: 0, kind, base, rules, count: rows.len() }
         }
     }
 }
 
 fn refused(verdict: Verdict) -> ReadOut {
-    ReadOut { number: verdict.number, place: verdict.place, kind: 0, base: 0, count: 0 }
+    let Verdict { number, place } = verdict;
+    ReadOut { number, place, kind: 0, base: 0, rules: 0, count: 0 }
 }
 
 fn read_fields(book: &[u8], room: usize) -> Result<Contents, Verdict> {
@@ -55,7 +63,8 @@ fn read_fields(book: &[u8], room: usize) -> Result<Contents, Verdict> {
         return Err(Verdict::new(2, 0));
     }
     let (tag, value) = field(book, 0)?;
-    let (kind, base) = read_head(tag, value)?;
+    let head = read_head(tag, value)?;
+    let kind = head.kind;
     let mut map = BTreeMap::new();
     let mut at = 3 + value.len();
     while at < book.len() {
@@ -68,7 +77,7 @@ fn read_fields(book: &[u8], room: usize) -> Result<Contents, Verdict> {
         }
         at += 3 + value.len();
     }
-    Ok(Contents { kind, base, map })
+    Ok(Contents { head, map })
 }
 
 /// Tag and value of the field at a byte; 1 where the book ends inside it, whatever the tag.
@@ -83,13 +92,17 @@ fn field(book: &[u8], at: usize) -> Result<(u8, &[u8]), Verdict> {
     }
 }
 
-/// The head stands at byte 0, so every place is 0.
-fn read_head(tag: u8, value: &[u8]) -> Result<(u8, u16), Verdict> {
+/// The head stands at byte 0, so every place is 0. Its tag and its length are judged first (2), then
+/// the edition (3), then whether that length is the edition's own (2 again), then its content.
+fn read_head(tag: u8, value: &[u8]) -> Result<Head, Verdict> {
     let number = match (tag, value) {
-        (1, [edition, kind, high, low]) => {
+        (1, [edition, kind, high, low, last @ ..]) if last.len() <= 1 => {
             let base = u16::from_be_bytes([*high, *low]);
-            match judge_head(*edition, *kind, base) {
-                0 => return Ok((*kind, base)),
+            let suits = last.len() == usize::from(edition.saturating_sub(1));
+            // Edition 1 says nothing of rules and means rule set 1.
+            let rules = last.first().copied().unwrap_or(1);
+            match judge_head(*edition, suits, *kind, base, rules) {
+                0 => return Ok(Head { kind: *kind, base, rules }),
                 number => number,
             }
         }
@@ -98,13 +111,24 @@ fn read_head(tag: u8, value: &[u8]) -> Result<(u8, u16), Verdict> {
     Err(Verdict::new(number, 0))
 }
 
-fn judge_head(edition: u8, kind: u8, base: u16) -> u32 {
-    if edition != 1 {
+fn judge_head(edition: u8, suits: bool, kind: u8, base: u16, rules: u8) -> u32 {
+    if !matches!(edition, 1 | 2) {
         3
-    } else if !annotation::kind_legal(kind) {
+    } else if !suits {
+        2
+    } else {
+        judge_saying(kind, base, rules)
+    }
+}
+
+/// What a head says, as reading and writing judge it: 4, 5, 36; 0 if legal.
+fn judge_saying(kind: u8, base: u16, rules: u8) -> u32 {
+    if !annotation::kind_legal(kind) {
         4
     } else if !base_legal(kind, base) {
         5
+    } else if !rules::legal(rules) {
+        36
     } else {
         0
     }
@@ -155,46 +179,62 @@ pub struct WriteOut {
     pub length: usize,
 }
 
-/// Writes a table as a book: 4, 5, the table's refusals, 12.
-pub fn write(kind: u8, base: u16, lanes: &Lanes, count: usize, out: &mut [u8]) -> WriteOut {
-    let verdict = judge_writing(kind, base, lanes, count, out.len());
+/// Writes a table as a book: 4, 5, 36, the table's refusals, 12.
+pub fn write(
+    kind: u8,
+    base: u16,
+    rules: u8,
+    lanes: &Lanes,
+    count: usize,
+    out: &mut [u8],
+) -> WriteOut {
+    let verdict = Verdict::new(judge_saying(kind, base, rules), 0)
+        .or_else(|| table::check(kind, lanes, count))
+        .or_else(|| judge_room(rules, count, out.len()));
     if !verdict.done() {
         return WriteOut { number: verdict.number, place: verdict.place, length: 0 };
     }
-    let bytes = bytes_of(kind, base, &table::rows(lanes, count));
+    let bytes = bytes_of(kind, base, rules, &table::rows(lanes, count));
     for (entry, byte) in out.iter_mut().zip(&bytes) {
         *entry = *byte;
     }
     WriteOut { number: 0, place: 0, length: bytes.len() }
 }
 
-fn judge_writing(kind: u8, base: u16, lanes: &Lanes, count: usize, room: usize) -> Verdict {
-    if !annotation::kind_legal(kind) {
-        return Verdict::new(4, 0);
-    }
-    if !base_legal(kind, base) {
-        return Verdict::new(5, 0);
-    }
-    let verdict = table::check(kind, lanes, count);
-    if verdict.done() && room < 7 + 17 * count {
-        return Verdict::new(12, 0);
-    }
-    verdict
+/// 12 where the head and the rows do not fit.
+fn judge_room(rules: u8, count: usize, room: usize) -> Verdict {
+    let head = if rules == 2 { 8 } else { 7 };
+    Verdict::new(if room < head + 17 * count { 12 } else { 0 }, 0)
 }
 
 /// The book of these rows in their order, judging nothing.
-pub fn bytes_of(kind: u8, base: u16, rows: &[Row]) -> Vec<u8> {
-    let mut bytes = head(1, kind, base);
+pub fn bytes_of(kind: u8, base: u16, rules: u8, rows: &[Row]) -> Vec<u8> {
+    let mut bytes = written_head(kind, base, rules);
     for row in rows {
         bytes.extend(triple_field(*row));
     }
     bytes
 }
 
-/// A head field, judging nothing.
+/// The head that the writer uses: edition 2 only for rule set 2.
+pub fn written_head(kind: u8, base: u16, rules: u8) -> Vec<u8> {
+    if rules == 2 {
+        long_head(2, kind, base, rules)
+    } else {
+        head(1, kind, base)
+    }
+}
+
+/// A head field of length 4, edition 1's, judging nothing.
 pub fn head(edition: u8, kind: u8, base: u16) -> Vec<u8> {
     let [high, low] = base.to_be_bytes();
     vec![1, 0, 4, edition, kind, high, low]
+}
+
+/// A head field of length 5, edition 2's, judging nothing.
+pub fn long_head(edition: u8, kind: u8, base: u16, rules: u8) -> Vec<u8> {
+    let [high, low] = base.to_be_bytes();
+    vec![1, 0, 5, edition, kind, high, low, rules]
 }
 
 /// A triple field, judging nothing.

@@ -1,9 +1,9 @@
 //! Closing: the least closed table at or above the one handed in, by drawing every conclusion
 //! over and over until nothing changes.
 
-use crate::annotation;
-use crate::table::{self, Lanes, Row, Triple};
+use crate::table::{self, Lanes, Row, Triple, Verdict};
 use crate::term::{self, DOM, RANGE, SC, SP, TYPE};
+use crate::{annotation, rules};
 use std::collections::BTreeMap;
 
 #[derive(Clone, Copy, Debug, PartialEq, Eq)]
@@ -14,14 +14,14 @@ pub struct CloseOut {
     pub count: usize,
 }
 
-/// Closes a table: the table's refusals, which change nothing, then 12 where the least closed
-/// table has more rows than the lanes, which leaves all rows zero.
-pub fn close(kind: u8, lanes: &mut Lanes, count: usize) -> CloseOut {
-    let verdict = table::check(kind, lanes, count);
+/// Closes a table under a rule set: 4, 36, the table's other refusals, which change nothing, then 12
+/// where the least closed table has more rows than the lanes, which leaves all rows zero.
+pub fn close(kind: u8, rules: u8, lanes: &mut Lanes, count: usize) -> CloseOut {
+    let verdict = judge(kind, rules).or_else(|| table::check(kind, lanes, count));
     if !verdict.done() {
         return CloseOut { number: verdict.number, place: verdict.place, count };
     }
-    match closure(kind, &table::rows(lanes, count), lanes.room()) {
+    match closure(kind, rules, &table::rows(lanes, count), lanes.room()) {
         Some(rows) => {
             table::fill(lanes, &rows);
             CloseOut { number: 0, place: 0, count: rows.len() }
@@ -33,11 +33,22 @@ pub fn close(kind: u8, lanes: &mut Lanes, count: usize) -> CloseOut {
     }
 }
 
+/// The kind, then the rule set.
+fn judge(kind: u8, rules: u8) -> Verdict {
+    if !annotation::kind_legal(kind) {
+        Verdict::new(4, 0)
+    } else if !rules::legal(rules) {
+        Verdict::new(36, 0)
+    } else {
+        Verdict::DONE
+    }
+}
+
 /// The rows of the closure, or nothing if it has more than `room`.
 ///
 /// What has been drawn never goes away again, so a map that outgrows the room on the way shows
 /// that the closure does.
-pub fn closure(kind: u8, rows: &[Row], room: usize) -> Option<Vec<Row>> {
+pub fn closure(kind: u8, rules: u8, rows: &[Row], room: usize) -> Option<Vec<Row>> {
     let mut map: BTreeMap<Triple, u64> = BTreeMap::new();
     for row in rows {
         table::join_in(kind, &mut map, *row);
@@ -48,7 +59,7 @@ pub fn closure(kind: u8, rows: &[Row], room: usize) -> Option<Vec<Row>> {
         }
         let rows: Vec<Row> = map.iter().map(|(triple, ann)| (*triple, *ann)).collect();
         let mut changed = false;
-        for row in conclusions(kind, &rows) {
+        for row in conclusions(kind, rules, &rows) {
             changed |= table::join_in(kind, &mut map, row);
         }
         if !changed {
@@ -76,9 +87,9 @@ impl Graph {
     }
 }
 
-/// Every conclusion of every rule from these rows in one round; those with a predicate that is
-/// no name, or with bottom, are not drawn.
-pub fn conclusions(kind: u8, rows: &[Row]) -> Vec<Row> {
+/// Every conclusion of every rule of the set from these rows in one round; those with a predicate
+/// that is no name, or with bottom, are not drawn.
+pub fn conclusions(kind: u8, rules: u8, rows: &[Row]) -> Vec<Row> {
     let mut graph = Graph { kind, by_pred: BTreeMap::new() };
     for ((subj, pred, obj), ann) in rows {
         graph.by_pred.entry(*pred).or_default().push((*subj, *obj, *ann));
@@ -90,6 +101,11 @@ pub fn conclusions(kind: u8, rows: &[Row]) -> Vec<Row> {
     sub_class(&graph, &mut drawn);
     typing(&graph, &mut drawn);
     implicit_typing(&graph, &mut drawn);
+    if rules::reflexive(rules) {
+        for row in rows {
+            reflexive(*row, &mut drawn);
+        }
+    }
     drawn.retain(|((_, pred, _), ann)| term::name(*pred) && *ann != annotation::BOTTOM);
     drawn
 }
@@ -149,5 +165,34 @@ fn implicit_typing(graph: &Graph, drawn: &mut Vec<Row>) {
                 drawn.push(((*y, TYPE, *b), graph.and(graph.and(*l, *m), *n)));
             }
         }
+    }
+}
+
+/// Rule set 2's lines 9 to 18, each of one premise and with its annotation.
+fn reflexive(premise: Row, drawn: &mut Vec<Row>) {
+    let ((subj, pred, obj), ann) = premise;
+    let mut sub_property_of_itself = |term: u16| drawn.push(((term, SP, term), ann));
+    // 9: (X A Y) gives (A sp A).
+    sub_property_of_itself(pred);
+    match pred {
+        // 10, 11: (A sp B) gives (A sp A), (B sp B).
+        SP => {
+            sub_property_of_itself(subj);
+            sub_property_of_itself(obj);
+        }
+        // 12, 13: (A dom B) or (A range B) gives (A sp A).
+        DOM | RANGE => sub_property_of_itself(subj),
+        _ => {}
+    }
+    let mut sub_class_of_itself = |term: u16| drawn.push(((term, SC, term), ann));
+    match pred {
+        // 14, 15: (A sc B) gives (A sc A), (B sc B).
+        SC => {
+            sub_class_of_itself(subj);
+            sub_class_of_itself(obj);
+        }
+        // 16, 17, 18: (X type A), (X dom A) or (X range A) gives (A sc A).
+        TYPE | DOM | RANGE => sub_class_of_itself(obj),
+        _ => {}
     }
 }

@@ -6,19 +6,19 @@ use crate::{book, closing};
 /// The rows there is room for.
 pub const ROOM: usize = 1024;
 
-/// Takes a book and writes the closed book: the length written, or number x 2^32 + place with
-/// the output untouched.
+/// Takes a book and writes it closed under its rule set: the length written, or number x 2^32 +
+/// place with the output untouched.
 pub fn close_book(book: &[u8], out: &mut [u8]) -> u64 {
     let mut lanes = Lanes::zero(ROOM);
     let read = book::read(book, &mut lanes);
     if read.number != 0 {
         return refused(read.number, read.place);
     }
-    let closed = closing::close(read.kind, &mut lanes, read.count);
+    let closed = closing::close(read.kind, read.rules, &mut lanes, read.count);
     if closed.number != 0 {
         return refused(closed.number, closed.place);
     }
-    let written = book::write(read.kind, read.base, &lanes, closed.count, out);
+    let written = book::write(read.kind, read.base, read.rules, &lanes, closed.count, out);
     if written.number != 0 {
         return refused(written.number, written.place);
     }

@@ -17,6 +17,7 @@ pub mod pattern;
 pub mod programs;
 pub mod question;
 pub mod random;
+pub mod rules;
 pub mod steps;
 pub mod table;
 pub mod term;

@@ -15,7 +15,7 @@ pub fn close_book_program(input: &[u8]) -> String {
     if read.number != 0 {
         return refused(read.number, read.place);
     }
-    let closed = closing::close(read.kind, &mut lanes, read.count);
+    let closed = closing::close(read.kind, read.rules, &mut lanes, read.count);
     if closed.number != 0 {
         return refused(closed.number, closed.place);
     }
@@ -52,7 +52,7 @@ pub fn counter_with_looks(input: &[u8], looks: u32) -> String {
         let Some((question, next)) = behind_length(rest) else {
             return text + &refused(1, 0);
         };
-        let closed = closing::close(read.kind, &mut lanes, count);
+        let closed = closing::close(read.kind, read.rules, &mut lanes, count);
         if closed.number != 0 {
             return text + &refused(closed.number, closed.place);
         }

@@ -19,7 +19,7 @@ fn p2_equal_triples_join_and_no_gap_is_filled() {
     let rows = [row(10, TYPE, 11, 7), row(10, TYPE, 11, 224)];
     assert_eq!(closed(1, &rows), [row(10, TYPE, 11, 231)]);
     let mut read = Lanes::zero(4);
-    let out = book::read(&book::bytes_of(1, 2000, &rows), &mut read);
+    let out = book::read(&book::bytes_of(1, 2000, 1, &rows), &mut read);
     assert_eq!((out.number, out.count, read.ann[0]), (0, 1, 231));
 }
 
@@ -105,7 +105,7 @@ fn room_2_for_p1_is_12() {
     let mut table = Lanes::zero(2);
     let read = book::read(&P1, &mut table);
     assert_eq!((read.number, read.kind, read.base, read.count), (0, 1, 2000, 2));
-    let out = closing::close(1, &mut table, 2);
+    let out = closing::close(1, 1, &mut table, 2);
     assert_eq!((out.number, out.place, out.count), (12, 0, 0));
     assert_eq!(table, Lanes::zero(2));
 }

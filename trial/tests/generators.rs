@@ -4,7 +4,7 @@ mod common;
 use std::collections::BTreeMap;
 use trial::ntriples::{self, names, Names};
 use trial::random::{self, books, closings, counters, questions, steps as lists, tables, Random};
-use trial::random::{files, lists as written};
+use trial::random::{files, lists as written, slow};
 use trial::steps::{self, Step};
 use trial::table::{self, Lanes};
 use trial::{book, closing, programs, question};
@@ -82,13 +82,14 @@ fn sound_tables_are_sound_and_reach_every_length() {
 #[test]
 fn books_meet_every_number() {
     let mut random = Random::new(43);
-    let mut met = Met::new();
+    let (mut met, mut heads) = (Met::new(), BTreeMap::new());
     for _ in 0..4000 {
         let bytes = books::any(&mut random);
         let (mut lanes, _) = tables::any(&mut random, 1);
         let before = lanes.clone();
         let out = book::read(&bytes, &mut lanes);
         meet(&mut met, out.number);
+        *heads.entry((bytes.get(2..4).map(<[u8]>::to_vec), out.rules)).or_insert(0) += 1;
         match out.number {
             0 => assert!(table::check(out.kind, &lanes, out.count).done()),
             11 | 13 => assert_eq!(lanes, before),
@@ -99,7 +100,15 @@ fn books_meet_every_number() {
             assert!(zeros[out.count..].iter().all(|row| *row == ((0, 0, 0), 0)));
         }
     }
-    assert_met(&met, &[0, 1, 2, 3, 4, 5, 6, 7, 8, 9, 10, 11, 12, 13, 28], 12);
+    assert_met(&met, &[0, 1, 2, 3, 4, 5, 6, 7, 8, 9, 10, 11, 12, 13, 28, 36], 12);
+    assert!(met[&36] > 40, "{met:?}");
+    // Length and edition, and the rule set that was read: 0 where the book is refused.
+    for (length, edition, rules) in [(4, 1, 1), (5, 2, 1), (5, 2, 2)] {
+        assert!(heads[&(Some(vec![length, edition]), rules)] > 100, "{heads:?}");
+    }
+    for (length, edition) in [(4, 2), (5, 1), (5, 3), (4, 3), (6, 2), (3, 1)] {
+        assert!(heads[&(Some(vec![length, edition]), 0)] >= 3, "{heads:?}");
+    }
 }
 
 #[test]
@@ -181,18 +190,46 @@ fn legal_step_lists_are_legal() {
 #[test]
 fn closings_meet_the_room_exactly_and_miss_it_by_one() {
     let mut random = Random::new(48);
-    let (mut met, mut exact, mut full) = (Met::new(), 0, 0);
-    for _ in 0..1500 {
-        let (kind, mut lanes, count) = closings::any(&mut random);
+    let mut met = [Met::new(), Met::new()];
+    let (mut exact, mut full, mut brim, mut unknown) = ([0, 0], [0, 0], [0, 0], 0);
+    for _ in 0..4000 {
+        let (kind, rules, mut lanes, count) = closings::any(&mut random);
         let room = lanes.subj.len();
-        let out = closing::close(kind, &mut lanes, count);
-        meet(&mut met, out.number);
+        let out = closing::close(kind, rules, &mut lanes, count);
+        unknown += usize::from(out.number == 36);
+        let Some(at) = [1, 2].iter().position(|set| *set == rules) else {
+            assert!([4, 36].contains(&out.number));
+            continue;
+        };
+        meet(&mut met[at], out.number);
         let grown = out.number == 0 && out.count > count;
-        exact += usize::from(grown && out.count == room);
-        full += usize::from(grown && out.count > 500);
+        exact[at] += usize::from(grown && out.count == room);
+        full[at] += usize::from(grown && out.count > 500);
+        brim[at] += usize::from(out.number == 0 && out.count >= 1023);
     }
-    assert!(exact > 200 && full > 10 && met[&12] > 150, "{exact} {full} {met:?}");
-    assert!([0, 4, 8, 9, 10, 11, 14, 15].iter().all(|number| met.contains_key(number)));
+    for at in [0, 1] {
+        assert!(exact[at] > 200 && full[at] > 20 && brim[at] > 20, "{exact:?} {full:?} {brim:?}");
+        assert!(met[at][&12] > 150, "{met:?}");
+        assert!([0, 4, 8, 9, 10, 11, 14, 15, 28].iter().all(|number| met[at].contains_key(number)));
+    }
+    assert!(unknown > 100, "{unknown}");
+}
+
+/// Every make of the books made to be slow, in every kind.
+#[test]
+fn slow_books_are_dealt_in_every_kind() {
+    let mut random = Random::new(50);
+    for kind in [1, 3, 4, 5] {
+        let mut sizes = std::collections::BTreeSet::new();
+        for _ in 0..200 {
+            let rows = slow::small(&mut random, kind);
+            let lanes = common::lanes(&rows, rows.len());
+            assert!(table::check(kind, &lanes, rows.len()).done());
+            assert!(closing::closure(kind, 2, &rows, 600).is_some());
+            sizes.insert(rows.len());
+        }
+        assert!(sizes.len() > 20, "{kind}: {sizes:?}");
+    }
 }
 
 #[test]

@@ -18,7 +18,7 @@ fn read(bytes: &[u8]) -> ReadOut {
         _ => assert_eq!(table, Lanes::zero(8)),
     }
     if out.number != 0 {
-        assert_eq!((out.kind, out.base, out.count), (0, 0, 0));
+        assert_eq!((out.kind, out.base, out.rules, out.count), (0, 0, 0, 0));
     }
     out
 }
@@ -84,7 +84,9 @@ fn tags_and_lengths_after_the_head() {
 #[test]
 fn head_content_in_byte_order() {
     assert_eq!(number(&book::head(0, 0, 7)), (3, 0));
-    assert_eq!(number(&book::head(2, 9, 7)), (3, 0));
+    assert_eq!(number(&book::head(3, 9, 7)), (3, 0));
+    // Edition 2 has a head of length 5 (C-23).
+    assert_eq!(number(&book::head(2, 9, 7)), (2, 0));
     for kind in [0, 2, 6, 255] {
         assert_eq!(number(&book::head(1, kind, 7)), (4, 0));
     }
@@ -105,7 +107,7 @@ fn head_content_in_byte_order() {
         let out = read(&book::head(1, kind, base));
         assert_eq!((out.number, out.place), (expected, 0));
         if expected == 0 {
-            assert_eq!((out.kind, out.base, out.count), (kind, base, 0));
+            assert_eq!((out.kind, out.base, out.rules, out.count), (kind, base, 1, 0));
         }
     }
 }
@@ -123,7 +125,7 @@ fn triple_content() {
         assert_eq!(number(&with_head(&[&good(), &book::triple_field(bad)])), (expected, 24));
     }
     for kind in [3, 4] {
-        let bytes = book::bytes_of(kind, 0, &[row(5, 5, 5, 1000), row(5, 5, 5, 1001)]);
+        let bytes = book::bytes_of(kind, 0, 1, &[row(5, 5, 5, 1000), row(5, 5, 5, 1001)]);
         assert_eq!(number(&bytes), (10, 24));
     }
 }
@@ -148,7 +150,7 @@ fn twelve_is_last_within_its_field() {
 #[test]
 fn lengths_of_books_and_lanes() {
     // 65,535 bytes are no 13: here the last field is cut.
-    let mut bytes = book::bytes_of(3, 0, &vec![row(5, 5, 5, 1); 3854]);
+    let mut bytes = book::bytes_of(3, 0, 1, &vec![row(5, 5, 5, 1); 3854]);
     assert_eq!(bytes.len(), 65_525);
     assert_eq!(number(&bytes), (0, 0));
     bytes.resize(65_535, 3);
@@ -169,7 +171,7 @@ fn lengths_of_books_and_lanes() {
 fn a_done_reading_sorts_joins_and_zeros_the_rest() {
     let rows = [row(9, 1, 1, 1), row(5, 2, 1, 2), row(9, 1, 1, 4), row(5, 1, 16_384, 8)];
     let mut table = lanes(&[row(BAD, BAD, BAD, 7); 5], 5);
-    let out = book::read(&book::bytes_of(1, 1999, &rows), &mut table);
+    let out = book::read(&book::bytes_of(1, 1999, 1, &rows), &mut table);
     assert_eq!((out.number, out.place, out.kind, out.base, out.count), (0, 0, 1, 1999, 3));
     let sorted = [row(5, 1, 16_384, 8), row(5, 2, 1, 2), row(9, 1, 1, 5)];
     assert_eq!(table, lanes(&sorted, 5));

@@ -1184,7 +1184,7 @@ fn w7_a_closed_table_with_a_literal_subject() {
     let mut read = read_all(file.as_bytes());
     let room = &mut [0; 300];
     assert_eq!(write_triples(1, &read.lanes, 2, &read.names, 4, room).number, 0);
-    let closed = trial::closing::close(1, &mut read.lanes, 2);
+    let closed = trial::closing::close(1, 1, &mut read.lanes, 2);
     assert_eq!((closed.number, closed.count), (0, 3));
     let out = write_triples(1, &read.lanes, 3, &read.names, 4, room);
     assert_eq!((out.number, out.place, out.length), (39, 2, 0));

@@ -122,7 +122,7 @@ fn two_sheets_prove_a_line_together() {
 fn twenty_eight_where_ten_stands() {
     for (ann, number) in [(0, 10), (2, 28), (1, 28), (1 << 63, 0), (u64::MAX - 1, 0)] {
         let bad = row(10, TYPE, 11, ann);
-        let out = book::read(&book::bytes_of(5, 0, &[bad]), &mut Lanes::zero(1));
+        let out = book::read(&book::bytes_of(5, 0, 1, &[bad]), &mut Lanes::zero(1));
         assert_eq!((out.number, out.place), (number, if number == 0 { 0 } else { 7 }));
         // In a row before 15, in an added triple before 12.
         let rows = [row(10, TYPE, 11, 1 << 63), bad];
@@ -171,5 +171,5 @@ fn asking_for_a_combination() {
 fn every_pair_of_lines_gives_something() {
     let rows = [row(10, TYPE, 11, with(0b000_111)), row(11, SC, 12, with(0b111_000))];
     assert_eq!(drawn(5, &rows), [row(10, TYPE, 12, 1 << 63)]);
-    assert_eq!(closing::closure(5, &rows, 2), None);
+    assert_eq!(closing::closure(5, 1, &rows, 2), None);
 }

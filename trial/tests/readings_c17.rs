@@ -68,7 +68,7 @@ fn rules_treat_a_value_as_any_term() {
     let chain = [row(20, SP, value, 1000), row(value, SP, 21, 900), row(10, 20, 30, 800)];
     assert_eq!(drawn(3, &chain), [row(10, 21, 30, 800), row(20, SP, 21, 900)]);
     let text = "closed 3 0 3\n10 20 49652 800\n20 4 12 900\n49652 2 12 800\n";
-    assert_eq!(programs::close_book_program(&book::bytes_of(3, 0, &ranged)), text);
+    assert_eq!(programs::close_book_program(&book::bytes_of(3, 0, 1, &ranged)), text);
 }
 
 #[test]

@@ -30,11 +30,11 @@ fn the_closing_program() {
     assert_eq!(close_book_program(&P1[..40]), "refused 1 24\n");
     assert_eq!(close_book_program(&book::head(1, 4, 0)), "closed 4 0 0\n");
     let chain: Vec<_> = (0..45).map(|at| row(100 + at, SC, 101 + at, 7)).collect();
-    assert_eq!(close_book_program(&book::bytes_of(3, 0, &chain)), "refused 12 0\n");
+    assert_eq!(close_book_program(&book::bytes_of(3, 0, 1, &chain)), "refused 12 0\n");
     let many: Vec<_> = (0..1025).map(|at| row(at, 20, 1, 7)).collect();
     let text = format!("refused 12 {}\n", 7 + 17 * 1024);
-    assert_eq!(close_book_program(&book::bytes_of(3, 0, &many)), text);
-    let text = close_book_program(&book::bytes_of(3, 0, &many[1..]));
+    assert_eq!(close_book_program(&book::bytes_of(3, 0, 1, &many)), text);
+    let text = close_book_program(&book::bytes_of(3, 0, 1, &many[1..]));
     assert!(text.starts_with("closed 3 0 1024\n1 20 1 7\n") && text.lines().count() == 1025);
 }
 
@@ -62,7 +62,7 @@ fn the_counters_refusals() {
     assert_eq!(counter_program(&counter(&P1[..40], &[&p11()])), "refused 1 24\n");
     // A book that does not close: nothing if not asked, a cut question first, then 12.
     let chain: Vec<_> = (0..45).map(|at| row(100 + at, SC, 101 + at, 7)).collect();
-    let long = book::bytes_of(3, 0, &chain);
+    let long = book::bytes_of(3, 0, 1, &chain);
     assert_eq!(counter_program(&counter(&long, &[])), "");
     let cut = [&counter(&long, &[])[..], &[0, 9]].concat();
     assert_eq!(counter_program(&cut), "refused 1 0\n");
@@ -78,13 +78,13 @@ fn the_counters_questions() {
     assert_eq!(counter_program(&counter(&P1, &[&bad, &p11(), &[]])), text);
     // 12 from a run: the 256 answers given are printed.
     let rows: Vec<_> = (0..257).map(|at| row(at, 20, 1, 7)).collect();
-    let input = counter(&book::bytes_of(3, 0, &rows), &[&bytes_of(&plain())]);
+    let input = counter(&book::bytes_of(3, 0, 1, &rows), &[&bytes_of(&plain())]);
     let text = counter_program(&input);
     assert!(text.starts_with("asked 12 0 256 257\n0 20 1 65535"));
     assert_eq!(text.lines().count(), 257);
     assert!(text.lines().skip(1).all(|line| line.split(' ').count() == 24));
     assert!(text.ends_with(" 7 0 0 0 0 0 0 0\n"));
-    let input = counter(&book::bytes_of(3, 0, &rows[1..]), &[&bytes_of(&plain())]);
+    let input = counter(&book::bytes_of(3, 0, 1, &rows[1..]), &[&bytes_of(&plain())]);
     assert!(counter_program(&input).starts_with("asked 0 0 256 256\n1 20 1 65535"));
 }
 
@@ -92,7 +92,7 @@ fn the_counters_questions() {
 fn the_exported_call() {
     let mut out = vec![9; 100];
     assert_eq!(export::close_book(&P1, &mut out), 58);
-    assert_eq!(out[..58], book::bytes_of(1, 2000, &P1_CLOSED));
+    assert_eq!(out[..58], book::bytes_of(1, 2000, 1, &P1_CLOSED));
     assert!(out[58..].iter().all(|byte| *byte == 9));
     let mut out = vec![9; 57];
     assert_eq!(export::close_book(&P1, &mut out), 12 << 32);

@@ -51,7 +51,7 @@ fn a_books_triple_is_judged_in_byte_order() {
         (row(5, 5, BAD, 0), 8, 8),
         (row(5, 5, 5, 0), 10, 10),
     ] {
-        let out = book::read(&book::bytes_of(5, 0, &[bad]), &mut Lanes::zero(4));
+        let out = book::read(&book::bytes_of(5, 0, 1, &[bad]), &mut Lanes::zero(4));
         assert_eq!((out.number, out.place), (number, 7), "{bad:?}");
         assert_eq!(check(5, &[bad]), (in_table, 0), "{bad:?}");
     }
@@ -62,7 +62,7 @@ fn any_year_set_but_the_empty_one_is_legal_and_strict_degrees_meet_in_nothing() 
     assert!(annotation::legal(1, 1) && annotation::legal(1, u64::MAX));
     assert!(annotation::legal(1, 1 << 63) && !annotation::legal(1, 0));
     // Base year 2100 and bit 63 would name 2163.
-    let bytes = book::bytes_of(1, 2100, &[row(5, 5, 5, 1 << 63)]);
+    let bytes = book::bytes_of(1, 2100, 1, &[row(5, 5, 5, 1 << 63)]);
     assert_eq!(book::read(&bytes, &mut Lanes::zero(1)).number, 0);
     for kind in [3, 4] {
         assert!(annotation::legal(kind, 1) && annotation::legal(kind, 1000));
@@ -108,7 +108,7 @@ fn room_0() {
     assert_eq!((out.number, out.kind, out.base, out.count), (0, 1, 2000, 0));
     let out = book::read(&P1, &mut none);
     assert_eq!((out.number, out.place, out.kind), (12, 7, 0));
-    let out = closing::close(1, &mut none, 0);
+    let out = closing::close(1, 1, &mut none, 0);
     assert_eq!((out.number, out.count), (0, 0));
     assert_eq!(add(1, &[], 0, row(5, 5, 5, 1)), (12, 0, 0, none));
 }
@@ -120,7 +120,7 @@ fn an_equal_triple_joins_on_a_full_table() {
     assert_eq!(add(1, &[old], 1, row(5, 5, 6, 6)), (12, 0, 1, lanes(&[old], 1)));
     // A join that changes nothing is done.
     assert_eq!(add(1, &[old], 1, old), (0, 0, 1, lanes(&[old], 1)));
-    let bytes = book::bytes_of(1, 2000, &[old, old, row(5, 5, 5, 6)]);
+    let bytes = book::bytes_of(1, 2000, 1, &[old, old, row(5, 5, 5, 6)]);
     let mut table = Lanes::zero(1);
     assert_eq!(book::read(&bytes, &mut table).number, 0);
     assert_eq!(table.ann, [7]);
@@ -154,18 +154,18 @@ fn writing_needs_7_and_17_a_row() {
         [(0, 12, 0), (57, 12, 0), (58, 0, 58), (59, 0, 58), (70_000, 0, 58)]
     {
         let mut out = vec![9; room];
-        let written = book::write(1, 2000, &table, 3, &mut out);
+        let written = book::write(1, 2000, 1, &table, 3, &mut out);
         assert_eq!((written.number, written.place, written.length), (number, 0, length));
         assert!(out[length..].iter().all(|byte| *byte == 9));
     }
     let mut out = vec![9; 7];
-    assert_eq!(book::write(3, 0, &table, 0, &mut out).length, 7);
+    assert_eq!(book::write(3, 0, 1, &table, 0, &mut out).length, 7);
     assert_eq!(out, [1, 0, 4, 1, 3, 0, 0]);
     // 4, 5, table, 12.
     let mut broken = table.clone();
     broken.subj[1] = BAD;
     let number = |kind, base, lanes: &Lanes, count| {
-        let written = book::write(kind, base, lanes, count, &mut []);
+        let written = book::write(kind, base, 1, lanes, count, &mut []);
         (written.number, written.place)
     };
     assert_eq!(number(0, 7, &broken, 9), (4, 0));
@@ -184,7 +184,7 @@ fn closing_refused_by_the_table_changes_nothing() {
     let mut table = lanes(&[row(1, 1, 1, 1), row(1, 1, 1, 1)], 3);
     let before = table.clone();
     for (kind, count, number, place) in [(0, 2, 4, 0), (1, 4, 14, 0), (1, 2, 15, 1)] {
-        let out = closing::close(kind, &mut table, count);
+        let out = closing::close(kind, 1, &mut table, count);
         assert_eq!((out.number, out.place, out.count), (number, place, count));
         assert_eq!(table, before);
     }
@@ -197,12 +197,14 @@ fn a_table_written_as_a_book_reads_back() {
         let kind = trial::random::legal_kind(&mut random);
         let (table, count) = trial::random::tables::sound(&mut random, kind);
         let base = trial::random::books::base(&mut random, kind);
-        let mut out = vec![0; 7 + 17 * count];
-        let written = book::write(kind, base, &table, count, &mut out);
+        let rules = trial::random::legal_rules(&mut random);
+        let mut out = vec![0; 6 + usize::from(rules) + 17 * count];
+        let written = book::write(kind, base, rules, &table, count, &mut out);
         assert_eq!((written.number, written.length), (0, out.len()));
         let mut again = Lanes::zero(count);
         let read = book::read(&out, &mut again);
         assert_eq!((read.number, read.kind, read.base, read.count), (0, kind, base, count));
+        assert_eq!(read.rules, rules);
         assert_eq!(table::rows(&again, count), table::rows(&table, count));
     }
 }

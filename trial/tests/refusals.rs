@@ -29,11 +29,18 @@ fn numbers_1_to_7_of_books() {
     assert_eq!(read(&P1[..30], 9), (1, 24));
     assert_eq!(read(&[], 9), (2, 0));
     assert_eq!(read(&after_a_row(&P1[..7]), 9), (2, 24));
-    assert_eq!(read(&book::head(2, 1, 2000), 9), (3, 0));
+    assert_eq!(read(&book::head(3, 1, 2000), 9), (3, 0));
     assert_eq!(read(&book::head(1, 2, 0), 9), (4, 0));
     assert_eq!(read(&book::head(1, 1, 2101), 9), (5, 0));
     assert_eq!(read(&after_a_row(&[2, 0, 0]), 9), (6, 24));
     assert_eq!(read(&after_a_row(&[3, 0, 0]), 9), (7, 24));
+}
+
+#[test]
+fn number_36_of_books_closing_and_writing() {
+    assert_eq!(read(&book::long_head(2, 1, 2000, 3), 9), (36, 0));
+    assert_eq!(closing::close(1, 3, &mut lanes(&P1_CLOSED, 3), 3).number, 36);
+    assert_eq!(book::write(1, 2000, 3, &lanes(&P1_CLOSED, 3), 3, &mut [0; 99]).number, 36);
 }
 
 #[test]
@@ -50,7 +57,7 @@ fn numbers_8_to_15_of_books_and_tables() {
     assert_eq!(check(1, &[], 1025, 0), (11, 0));
     assert_eq!(read(&P1, 1025), (11, 0));
     assert_eq!(read(&P1, 1), (12, 24));
-    assert_eq!(closing::close(1, &mut lanes(&[P1_CLOSED[0], P1_CLOSED[2]], 2), 2).number, 12);
+    assert_eq!(closing::close(1, 1, &mut lanes(&[P1_CLOSED[0], P1_CLOSED[2]], 2), 2).number, 12);
     assert_eq!(read(&vec![1; 65_536], 9), (13, 0));
     assert_eq!(check(1, &[good], 1, 2), (14, 0));
     assert_eq!(check(1, &[good, good], 2, 2), (15, 1));

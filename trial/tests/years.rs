@@ -1,12 +1,12 @@
 //! Year by year (C-20): a bit of a closure is what the plain rules draw from the lines of that bit
 //! alone, and two tables whose lines of a bit agree have closures that agree there. In kind 1 a bit
-//! is a year, in kind 5 a combination of sheets.
+//! is a year, in kind 5 a combination of sheets. In either rule set, the same on both sides.
 
 mod common;
 use common::*;
 use std::collections::BTreeSet;
 use trial::closing;
-use trial::random::{self, closings, Random};
+use trial::random::{self, closings, legal_rules, Random};
 use trial::table::{self, Row, Triple};
 
 /// The triples of a table whose annotation has this bit.
@@ -16,35 +16,35 @@ fn lines(rows: &[Row], bit: usize) -> BTreeSet<Triple> {
 
 /// What the plain rules draw from these lines, in any number of steps: every line has the top of
 /// kind 3, whose And and Join are the top again, so that no annotation says anything.
-fn plain(lines: &BTreeSet<Triple>) -> BTreeSet<Triple> {
+fn plain(rules: u8, lines: &BTreeSet<Triple>) -> BTreeSet<Triple> {
     let rows: Vec<Row> = lines.iter().map(|triple| (*triple, 1000)).collect();
-    closing::closure(3, &rows, usize::MAX).unwrap().into_iter().map(|row| row.0).collect()
+    closing::closure(3, rules, &rows, usize::MAX).unwrap().into_iter().map(|row| row.0).collect()
 }
 
 /// Only what the closure comes to in `most` rows; a chain of 46 would take long at 64 bits each.
-fn closed_within(kind: u8, rows: &[Row], most: usize) -> Option<Vec<Row>> {
-    closing::closure(kind, rows, most)
+fn closed_within(kind: u8, rules: u8, rows: &[Row], most: usize) -> Option<Vec<Row>> {
+    closing::closure(kind, rules, rows, most)
 }
 
 /// Random tables, all 64 bits of each.
 #[test]
 fn each_bit_of_a_closure_is_drawn_from_the_lines_of_that_bit() {
     let mut random = Random::new(20);
-    let (mut tables, mut drawn) = (0, 0);
-    while tables < 10_000 {
-        let kind = random.pick(&[1, 5]);
+    let (mut tables, mut drawn) = (0, [0, 0]);
+    while tables < 12_000 {
+        let (kind, rules) = (random.pick(&[1, 5]), legal_rules(&mut random));
         let rows = closings::rows(&mut random, kind);
-        let Some(closed) = closed_within(kind, &rows, 150) else {
+        let Some(closed) = closed_within(kind, rules, &rows, 150) else {
             continue;
         };
         tables += 1;
         for bit in 0..64 {
             let (lines, there) = (lines(&rows, bit), lines(&closed, bit));
-            drawn += usize::from(there.len() > lines.len());
-            assert_eq!(there, plain(&lines), "bit {bit} of {rows:?}");
+            drawn[usize::from(rules) - 1] += usize::from(there.len() > lines.len());
+            assert_eq!(there, plain(rules, &lines), "bit {bit}, rule set {rules}, {rows:?}");
         }
     }
-    assert!(drawn > 50_000, "{drawn}");
+    assert!(drawn.iter().all(|drawn| *drawn > 30_000), "{drawn:?}");
 }
 
 /// A table with the same lines at a bit, which may be another bit of it, and anything elsewhere.
@@ -66,9 +66,10 @@ fn tables_that_agree_on_a_year_close_to_tables_that_agree_on_it() {
     while pairs < 5_000 {
         let rows = closings::rows(&mut random, 1);
         let (bit, other_bit) = (random.below(9), random.below(64));
+        let rules = legal_rules(&mut random);
         let others = alike_at(&mut random, &rows, bit, other_bit);
         let (Some(one), Some(other)) =
-            (closed_within(1, &rows, 300), closed_within(1, &others, 300))
+            (closed_within(1, rules, &rows, 300), closed_within(1, rules, &others, 300))
         else {
             continue;
         };
@@ -89,15 +90,15 @@ fn a_line_of_other_years_leaves_a_year_as_it_is() {
     let mut random = Random::new(22);
     for _ in 0..1_000 {
         let rows = closings::rows(&mut random, 1);
-        let bit = random.below(9);
+        let (bit, rules) = (random.below(9), legal_rules(&mut random));
         let (triple, ann) = random::row(&mut random, 1);
-        let Some(before) = closed_within(1, &rows, 300) else {
+        let Some(before) = closed_within(1, rules, &rows, 300) else {
             continue;
         };
         let mut map = rows.iter().copied().collect();
         table::join_in(1, &mut map, (triple, ann & !(1 << bit)));
         let more: Vec<Row> = map.into_iter().filter(|row| row.1 != 0).collect();
-        if let Some(after) = closed_within(1, &more, 300) {
+        if let Some(after) = closed_within(1, rules, &more, 300) {
             assert_eq!(lines(&before, bit), lines(&after, bit));
         }
     }
@@ -107,9 +108,18 @@ fn a_line_of_other_years_leaves_a_year_as_it_is() {
 fn p1_holds_its_third_row_in_2005_and_2006() {
     let rows = [row(10, TYPE, 11, 120), row(11, SC, 12, 2016)];
     for bit in 0..64 {
-        assert_eq!(plain(&lines(&rows, bit)).contains(&(10, TYPE, 12)), bit == 5 || bit == 6);
+        for rules in [1, 2] {
+            let drawn = plain(rules, &lines(&rows, bit));
+            assert_eq!(drawn.contains(&(10, TYPE, 12)), bit == 5 || bit == 6);
+        }
     }
     assert_eq!(closed(1, &rows), P1_CLOSED);
+    // In rule set 2 the class 11 is within itself in the years of either line, and only there.
+    for bit in 0..64 {
+        let drawn = plain(2, &lines(&rows, bit));
+        assert_eq!(drawn.contains(&(11, SC, 11)), (3..=10).contains(&bit));
+        assert_eq!(drawn.contains(&(TYPE, SP, TYPE)), (3..=6).contains(&bit));
+    }
 }
 
 #[test]
@@ -136,7 +146,7 @@ fn two_sheets_together_and_one_alone() {
 fn two_steps_of_one_year() {
     let rows = [row(5, SC, 6, 1), row(6, SC, 7, 1), row(10, TYPE, 5, 1)];
     assert!(lines(&closed(1, &rows), 0).contains(&(10, TYPE, 7)));
-    let once: Vec<Triple> = closing::conclusions(1, &rows).iter().map(|row| row.0).collect();
+    let once: Vec<Triple> = closing::conclusions(1, 1, &rows).iter().map(|row| row.0).collect();
     assert!(!once.contains(&(10, TYPE, 7)));
 }
 
@@ -145,6 +155,6 @@ fn two_steps_of_one_year() {
 fn a_line_of_another_year_can_be_one_row_too_many() {
     let rows = [row(10, TYPE, 11, 120), row(11, SC, 12, 2016)];
     let more = [row(10, TYPE, 11, 120), row(10, TYPE, 99, 1 << 12), row(11, SC, 12, 2016)];
-    assert_eq!(closing::close(1, &mut lanes(&rows, 3), 2).number, 0);
-    assert_eq!(closing::close(1, &mut lanes(&more, 3), 3).number, 12);
+    assert_eq!(closing::close(1, 1, &mut lanes(&rows, 3), 2).number, 0);
+    assert_eq!(closing::close(1, 1, &mut lanes(&more, 3), 3).number, 12);
 }

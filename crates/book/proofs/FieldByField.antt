@@ -78,10 +78,11 @@ module _ (kind : ℕ) (b : List ℕ) (at : ℕ) (l : Lanes) (n : ℕ) (into : Fi
         }
 
 -- where no field is left
-pub fields-over : (kind base room : ℕ) (b : List ℕ) (at fuel : ℕ) (R : List Row) → length b ≤ at → fieldsFrom fuel kind base b room at R ≡ readAs kind base R
+pub fields-over : (kind base rules room : ℕ) (b : List ℕ) (at fuel : ℕ) (R : List Row) → length b ≤ at
+    → fieldsFrom fuel kind base rules b room at R ≡ readAs kind base rules R
 unfolding fieldsFrom
-fields-over kind base room b at zero R h = refl
-fields-over kind base room b at (suc fuel) R h = rw (le-leb (length b) at h) refl
+fields-over kind base rules room b at zero R h = refl
+fields-over kind base rules room b at (suc fuel) R h = rw (le-leb (length b) at h) refl
 
 -- field after field
 module _ (kind : ℕ) (b : List ℕ) (start : ℕ) (l : Lanes) where
@@ -93,7 +94,7 @@ module _ (kind : ℕ) (b : List ℕ) (start : ℕ) (l : Lanes) where
     zero = λ i q. f .zero i;
     fuel = length b;
     enough = omega arith;
-    meaning = λ base. refl;
+    meaning = λ base rules. refl;
   }
 
   module _ (m : Lanes) (at count : ℕ) (h : Reached kind b start l m at count) where
@@ -107,14 +108,14 @@ module _ (kind : ℕ) (b : List ℕ) (start : ℕ) (l : Lanes) where
     steps = stepChecks kind b (length (l .subj)) at R
 
     -- a turn of the definition, where more is left
-    abbrev Turn : ℕ → ℕ → ℕ → Type 0
-    Turn fuel base left = fieldsFrom fuel kind base b (length (l .subj)) at R
-        ≡ whenDone (first steps) (λ _. fieldsFrom left kind base b (length (l .subj)) (behind b at) (addRow (algebra kind) (rowIn b at) R))
+    abbrev Turn : ℕ → ℕ → ℕ → ℕ → Type 0
+    Turn fuel base rules left = fieldsFrom fuel kind base rules b (length (l .subj)) at R
+        ≡ whenDone (first steps) (λ _. fieldsFrom left kind base rules b (length (l .subj)) (behind b at) (addRow (algebra kind) (rowIn b at) R))
 
-    turn : (fuel : ℕ) → length b ≤ at + fuel → at < length b → (left : ℕ) × (fuel ≡ suc left) × ((base : ℕ) → Turn fuel base left)
+    turn : (fuel : ℕ) → length b ≤ at + fuel → at < length b → (left : ℕ) × (fuel ≡ suc left) × ((base rules : ℕ) → Turn fuel base rules left)
     unfolding fieldsFrom
     turn zero e q = absurd (omega arith)
-    turn (suc fuel) e q = (fuel, refl, λ base. rw (lt-leb (length b) at q) refl)
+    turn (suc fuel) e q = (fuel, refl, λ base rules. rw (lt-leb (length b) at q) refl)
 
     module _ (q : at < length b) (m′ : Lanes) (d : FieldDone) (p : FieldPut kind b at m count m′ d) where
       number-is : d .number ≡ first steps .number
@@ -133,7 +134,7 @@ module _ (kind : ℕ) (b : List ℕ) (start : ℕ) (l : Lanes) where
             zero = λ i w. p .rest k0 i w ∙ h .zero i (omega (arith, p .more k0));
             fuel = t .0;
             enough = omega (arith, h .enough, t .1, p .next-is k0);
-            meaning = λ base. h .meaning base ∙ t .2 base ∙ rw (← number-is, eq-eqb (d .number) 0 k0, p .rows-are k0, p .next-is k0) refl;
+            meaning = λ base rules. h .meaning base rules ∙ t .2 base rules ∙ rw (← number-is, eq-eqb (d .number) 0 k0, p .rows-are k0, p .next-is k0) refl;
           }
 
       pub reached-stop : 0 < d .number → FieldsRead kind b start l m′ (record { number = d .number; place = at; count = d .count })
@@ -143,7 +144,7 @@ module _ (kind : ℕ) (b : List ℕ) (start : ℕ) (l : Lanes) where
           let v : first steps ≡ verdict (d .number) at
           = first-place at steps all-at (rw (← number-is) w) ∙ ap (λ (x : ℕ). verdict x at) (sym number-is) in
           record {
-            meaning = λ base. h .meaning base ∙ turn (h .fuel) (h .enough) q .2 base ∙ rw (v, ne-eqb (d .number) 0 (λ z. omega arith)) refl;
+            meaning = λ base rules. h .meaning base rules ∙ turn (h .fuel) (h .enough) q .2 base rules ∙ rw (v, ne-eqb (d .number) 0 (λ z. omega arith)) refl;
             filled-is = λ z. absurd (omega arith);
             sound = p .sound;
             as-long = p .as-long ∙ h .as-long;
@@ -158,7 +159,7 @@ module _ (kind : ℕ) (b : List ℕ) (start : ℕ) (l : Lanes) where
 
     pub reached-end : Sound kind l 0 → length b ≤ at → FieldsRead kind b start l m (record { number = 0; place = 0; count = count })
     reached-end s q = record {
-      meaning = λ base. h .meaning base ∙ fields-over kind base (length (l .subj)) b at (h .fuel) R q;
+      meaning = λ base rules. h .meaning base rules ∙ fields-over kind base rules (length (l .subj)) b at (h .fuel) R q;
       filled-is = λ z. laid-over s;
       sound = h .sound;
       as-long = h .as-long;

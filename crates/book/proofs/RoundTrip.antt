@@ -1,6 +1,6 @@
 -- A book's fields read back to their rows: one field, field after field, the head, the whole. Assumes nothing.
 use mathlib.Core.Path.{_≡_, refl, sym, ap, _∙_}
-use mathlib.Core.Bool.{Bool, true, false, not, _||_}
+use mathlib.Core.Bool.{Bool, true, false, not, cond, _||_, and-eq-true-iff}
 use mathlib.Core.List.{List, [], _∷_, _++_, append-assoc, append-nil}
 use Prim.Native.Nat.{ℕ, zero, suc, _+_, _*_, _≤_, _<_}
 use native.Mathlib.Nat.{add-assoc}
@@ -8,11 +8,13 @@ use native.Mathlib.Omega.{arith}
 use lib.ListN.{length, getD, length-append}
 use lib.Seq.{getD-append-seam}
 use lib.Dec.{eqb, leb, ltb}
-use borrow.Author.Tests.{eq-eqb, ne-eqb, le-ltb, lt-leb, le-leb}
+use borrow.Author.Tests.{eq-eqb, ne-eqb, eqb-false, leb-true, le-ltb, lt-leb, le-leb}
 use Rattle.term.specs.Refusal.{Check, refuse, verdict, done, first}
 use Rattle.term.specs.declared.refusal.Verdict.{Verdict}
 use Rattle.term.proofs.Firsts.{first-passes, first-none}
 use Rattle.term.proofs.Sorts.{legal-below, name-below, term-passes, predicate-passes}
+use Rattle.ruleset.specs.RuleSet.{basicSet, reflexiveSet, isRuleSet}
+use Rattle.ruleset.proofs.Judged.{rule-set-passes}
 use Rattle.annotation.specs.Kinds.{algebra, isKind}
 use Rattle.annotation.proofs.KindLaws.{laws}
 use Rattle.annotation.proofs.Legal.{legal-value}
@@ -24,7 +26,7 @@ use Rattle.field.specs.Numbers.{twoAt, eightAt, twoBytes, eightBytes}
 use Rattle.field.specs.Fields.{isCut, tagAt, sizeAt, behind}
 use Rattle.field.proofs.Writing.{length-two}
 use Rattle.field.proofs.Back.{two-behind, eight-behind, two-back, eight-back}
-use Rattle.book.specs.Format.{headLength, tripleLength, headSize, tripleSize, isBase, headChecks, headKind, headBase, rowIn, contentChecks, fieldChecks, headBytes, fieldBytes, fieldsBytes, bookBytes}
+use Rattle.book.specs.Format.{firstEdition, secondEdition, isEdition, headLength, isHeadLength, editionFor, tripleLength, headSize, tripleSize, isBase, headChecks, headKind, headBase, headRules, rowIn, contentChecks, fieldChecks, rulesBytes, headBytes, fieldBytes, fieldsBytes, bookBytes}
 use Rattle.book.specs.Reading.{Read, readAs, stepChecks, fieldsFrom, readBook}
 use Rattle.book.proofs.FieldByField.{fields-over}
 use Rattle.book.proofs.Writes.{length-head, length-field}
@@ -122,10 +124,10 @@ module _ (kind : ℕ) (r : Row) (h : LegalRow kind r) (pre rest : List ℕ) wher
       ∙ content-passes kind (rowIn b at) at cs (rw row-back h)
 
 -- field after field: the fields left are added to the rows before them
-module _ (kind base room : ℕ) where
+module _ (kind base rules room : ℕ) where
   one-more : (r : Row) (pre rest : List ℕ) (R : List Row) (fuel : ℕ) → LegalRow kind r → length (addRow (algebra kind) r R) ≤ room
-      → fieldsFrom (suc fuel) kind base (pre ++ (fieldBytes r ++ rest)) room (length pre) R
-      ≡ fieldsFrom fuel kind base (pre ++ (fieldBytes r ++ rest)) room (length (pre ++ fieldBytes r)) (addRow (algebra kind) r R)
+      → fieldsFrom (suc fuel) kind base rules (pre ++ (fieldBytes r ++ rest)) room (length pre) R
+      ≡ fieldsFrom fuel kind base rules (pre ++ (fieldBytes r ++ rest)) room (length (pre ++ fieldBytes r)) (addRow (algebra kind) r R)
   unfolding fieldsFrom
   one-more r pre rest R fuel h fits =
       rw (opened kind r h pre rest)
@@ -139,9 +141,9 @@ module _ (kind base room : ℕ) where
 
   pub fields-read : (fs : List Row) (pre : List ℕ) (R : List Row) (fuel : ℕ) → length fs ≤ fuel → AllLegal kind fs
       → length (addAll (algebra kind) fs R) ≤ room
-      → fieldsFrom fuel kind base (pre ++ fieldsBytes fs) room (length pre) R ≡ readAs kind base (addAll (algebra kind) fs R)
+      → fieldsFrom fuel kind base rules (pre ++ fieldsBytes fs) room (length pre) R ≡ readAs kind base rules (addAll (algebra kind) fs R)
   unfolding addAll AllLegal fieldsBytes
-  fields-read [] pre R fuel q legal fits = fields-over kind base room (pre ++ []) (length pre) fuel R (rw (append-nil pre) (omega arith))
+  fields-read [] pre R fuel q legal fits = fields-over kind base rules room (pre ++ []) (length pre) fuel R (rw (append-nil pre) (omega arith))
   fields-read (r ∷ rs) pre R zero q legal fits = absurd (omega arith)
   fields-read (r ∷ rs) pre R (suc fuel) q legal fits =
       let here : length (addRow (algebra kind) r R) ≤ room = omega (arith, all-no-fewer (algebra kind) rs (addRow (algebra kind) r R)) in
@@ -154,49 +156,74 @@ unfolding fieldsBytes
 fields-long [] = omega arith
 fields-long (x ∷ xs) = omega (arith, length-append (fieldBytes x) (fieldsBytes xs), length-field x, fields-long xs)
 
+-- the edition for a rule set is an edition, and its length a head's length
+for-edition : (t : Bool) → (isEdition (cond t secondEdition firstEdition) ≡ true) × (isHeadLength (headLength (cond t secondEdition firstEdition)) ≡ true)
+for-edition true = (refl, refl)
+for-edition false = (refl, refl)
+
 -- the head
-module _ (kind base : ℕ) (known : isKind kind ≡ true) (year : isBase kind base ≡ true) (small : base < 65536) (fs : List Row) where
+module _ (kind base rules : ℕ) (known : isKind kind ≡ true) (year : isBase kind base ≡ true) (set : isRuleSet rules ≡ true) (small : base < 65536) (fs : List Row) where
   abbrev book : List ℕ
-  book = bookBytes kind base fs
+  book = bookBytes kind base rules fs
 
   abbrev spelt : List ℕ
-  spelt = 1 ∷ 0 ∷ headLength ∷ 1 ∷ kind ∷ (twoBytes base ++ fieldsBytes fs)
+  spelt = 1 ∷ 0 ∷ headLength (editionFor rules) ∷ editionFor rules ∷ kind ∷ (twoBytes base ++ (rulesBytes rules ++ fieldsBytes fs))
 
   spelled : book ≡ spelt
   unfolding headBytes
-  spelled = refl
+  spelled =
+      ap (λ (x : List ℕ). 1 ∷ 0 ∷ headLength (editionFor rules) ∷ editionFor rules ∷ kind ∷ x)
+      (append-assoc (twoBytes base) (rulesBytes rules) (fieldsBytes fs))
 
   base-back : headBase spelt ≡ base
-  base-back = two-behind (1 ∷ 0 ∷ headLength ∷ 1 ∷ kind ∷ []) (twoBytes base ++ fieldsBytes fs) 0 ∙ two-back base (fieldsBytes fs) small
+  base-back =
+      two-behind (1 ∷ 0 ∷ headLength (editionFor rules) ∷ editionFor rules ∷ kind ∷ []) (twoBytes base ++ (rulesBytes rules ++ fieldsBytes fs)) 0
+      ∙ two-back base (rulesBytes rules ++ fieldsBytes fs) small
 
-  head-size : sizeAt spelt 0 ≡ headLength
+  -- the first edition's is 1, the second's is the byte behind the base year
+  rules-back : headRules spelt ≡ rules
+  unfolding twoBytes rulesBytes isRuleSet
+  rules-back = go (eqb rules reflexiveSet) refl
+    where
+      go : (t : Bool) → eqb rules reflexiveSet ≡ t → headRules spelt ≡ rules
+      go true e = rw e refl
+      go false e =
+          let in-set = and-eq-true-iff (leb basicSet rules) (leb rules reflexiveSet) .0 set in
+          rw e (omega (arith, leb-true basicSet rules (in-set .0), leb-true rules reflexiveSet (in-set .1), eqb-false rules reflexiveSet e))
+
+  head-size : sizeAt spelt 0 ≡ headLength (editionFor rules)
   unfolding twoAt
-  head-size = refl
+  head-size = omega arith
 
-  spelt-long : headSize ≤ length spelt
-  spelt-long = omega (arith, length-append (twoBytes base) (fieldsBytes fs), length-two base)
+  spelt-long : headSize rules ≤ length spelt
+  spelt-long = omega (arith, ap length spelled, length-append (headBytes kind base rules) (fieldsBytes fs), length-head kind base rules)
 
   head-whole : isCut spelt 0 ≡ false
-  head-whole = rw (head-size, le-ltb (length spelt) (0 + 3) (omega (arith, spelt-long)), le-ltb (length spelt) headSize (omega (arith, spelt-long))) refl
+  head-whole =
+      rw (head-size, le-ltb (length spelt) (0 + 3) (omega (arith, spelt-long)), le-ltb (length spelt) (0 + 3 + headLength (editionFor rules)) (omega (arith, spelt-long))) refl
 
   head-passes : first (headChecks spelt) ≡ done
   head-passes =
+      let is = for-edition (eqb rules reflexiveSet) in
       first-passes (eqb (length spelt) 0) 2 0 _ (ne-eqb (length spelt) 0 (λ z. omega (arith, spelt-long)))
       ∙ first-passes (isCut spelt 0) 1 0 _ head-whole
       ∙ first-passes _ 2 0 _ refl
-      ∙ first-passes _ 2 0 _ (rw head-size refl)
-      ∙ first-passes _ 3 0 _ refl
+      ∙ first-passes _ 2 0 _ (rw (head-size, is .1) refl)
+      ∙ first-passes _ 3 0 _ (rw (is .0) refl)
+      ∙ first-passes _ 2 0 _ (rw (head-size, eq-eqb (headLength (editionFor rules)) (headLength (editionFor rules)) refl) refl)
       ∙ kind-passes kind 0 _ known
-      ∙ first-passes _ 5 0 [] (rw (base-back, year) refl)
+      ∙ first-passes _ 5 0 _ (rw (base-back, year) refl)
+      ∙ rule-set-passes (headRules spelt) 0 [] (rw rules-back set)
       ∙ first-none
 
   -- a book of legal rows in any order reads to these rows added one after another
   pub book-reads : (room : ℕ) → AllLegal kind fs → length (addAll (algebra kind) fs []) ≤ room
-      → readBook book room ≡ readAs kind base (addAll (algebra kind) fs [])
-  unfolding readBook headBytes
+      → readBook book room ≡ readAs kind base rules (addAll (algebra kind) fs [])
+  unfolding readBook headBytes twoBytes
   book-reads room legal fits =
-      rw (spelled, head-passes, base-back, head-size)
-      (rw (← spelled, ← length-head kind base) (fields-read kind base room fs (headBytes kind base) [] (length book) enough legal fits))
+      rw (spelled, head-passes, base-back, rules-back, head-size)
+      (rw (← spelled, ← length-head kind base rules)
+      (fields-read kind base rules room fs (headBytes kind base rules) [] (length book) enough legal fits))
     where
       enough : length fs ≤ length book
-      enough = omega (arith, length-append (headBytes kind base) (fieldsBytes fs), fields-long fs)
+      enough = omega (arith, length-append (headBytes kind base rules) (fieldsBytes fs), fields-long fs)

@@ -26,24 +26,24 @@ use Rattle.book.proofs.ReadsSound.{head-numbered, head-at, legal-head}
 
 -- what is refused is said, and nothing else
 pub refused-into : (l : Lanes) (number place : ℕ) (d : ReadDone) → d ≡ refusedDone number place → ReadInto (refused (verdict number place)) l (zeroed l) d
-refused-into l number place d e = rw e (record { verdict-is = refl; kind-is = refl; base-is = refl; count-is = refl; lanes-are = refl })
+refused-into l number place d e = rw e (record { verdict-is = refl; kind-is = refl; base-is = refl; rules-is = refl; count-is = refl; lanes-are = refl })
 
 -- the fields behind the head
-module _ (kind base : ℕ) (b : List ℕ) (start : ℕ) (l : Lanes) (fresh : Fresh kind l) (m : Lanes) (s : FieldsDone) (f : FieldsRead kind b start l m s) where
+module _ (kind base rules : ℕ) (b : List ℕ) (start : ℕ) (l : Lanes) (fresh : Fresh kind l) (m : Lanes) (s : FieldsDone) (f : FieldsRead kind b start l m s) where
   same-zeros : zeroed m ≡ zeroed l
   same-zeros = zeroed-alike (sound-as-long (fresh .sound) (f .sound) (f .as-long))
 
   abbrev Body : Lanes → ReadDone → Type 0
-  Body = ReadInto (fieldsOf kind base b (length (l .subj)) start) l
+  Body = ReadInto (fieldsOf kind base rules b (length (l .subj)) start) l
 
   pub body-refused : 0 < s .number → (m′ : Lanes) (d : ReadDone) → m′ ≡ zeroed m → d ≡ refusedDone (s .number) (s .place) → Body m′ d
-  body-refused h m′ d em e = rw (f .meaning base, ne-eqb (s .number) 0 (λ z. omega arith), em, same-zeros) (refused-into l (s .number) (s .place) d e)
+  body-refused h m′ d em e = rw (f .meaning base rules, ne-eqb (s .number) 0 (λ z. omega arith), em, same-zeros) (refused-into l (s .number) (s .place) d e)
 
-  pub body-done : s .number ≤ 0 → Body m (record { number = 0; place = 0; kind = kind; base = base; count = s .count })
+  pub body-done : s .number ≤ 0 → Body m (record { number = 0; place = 0; kind = kind; base = base; rules = rules; count = s .count })
   body-done h =
       let z : s .number ≡ 0 = omega arith in
-      rw (f .meaning base, eq-eqb (s .number) 0 z)
-      (record { verdict-is = refl; kind-is = refl; base-is = refl; count-is = sym (tab-length (s .count) _); lanes-are = f .filled-is z })
+      rw (f .meaning base rules, eq-eqb (s .number) 0 z)
+      (record { verdict-is = refl; kind-is = refl; base-is = refl; rules-is = refl; count-is = sym (tab-length (s .count) _); lanes-are = f .filled-is z })
 
 -- zeros laid over zeros
 filled-again : (R : List Row) (l : Lanes) → filled R (zeroed l) ≡ filled R l
@@ -51,16 +51,17 @@ filled-again R l = simp length-replicate
 
 -- the whole call
 abbrev pub ReadDoneOf : List ℕ → Lanes → Lanes → ReadDone → Type 0
-ReadDoneOf b l m d = Reading b l m (d .number) (d .place) (d .kind) (d .base) (d .count)
+ReadDoneOf b l m d = Reading b l m (d .number) (d .place) (d .kind) (d .base) (d .rules) (d .count)
 
 module _ (b : List ℕ) (l : Lanes) where
   -- the answer, once it is known what is read
   as-read : (what : Read) → reading b l ≡ what → (m : Lanes) (d : ReadDone) → verdict (d .number) (d .place) ≡ what .verdict-of → d .kind ≡ what .kind → d .base ≡ what .base
-      → d .count ≡ length (what .rows) → m ≡ cond (eqb (first (lendChecks b l) .number) 0) (filled (what .rows) l) l → ReadDoneOf b l m d
-  as-read what w m d v k y c ms = record {
+      → d .rules ≡ what .rules → d .count ≡ length (what .rows) → m ≡ cond (eqb (first (lendChecks b l) .number) 0) (filled (what .rows) l) l → ReadDoneOf b l m d
+  as-read what w m d v k y u c ms = record {
     verdict-is = v ∙ ap (λ (r : Read). r .verdict-of) (sym w);
     kind-is = k ∙ ap (λ (r : Read). r .kind) (sym w);
     base-is = y ∙ ap (λ (r : Read). r .base) (sym w);
+    rules-is = u ∙ ap (λ (r : Read). r .rules) (sym w);
     count-is = c ∙ ap (λ (r : Read). length (r .rows)) (sym w);
     lanes-are = ms ∙ ap (λ (r : Read). cond (eqb (first (lendChecks b l) .number) 0) (filled (r .rows) l) l) (sym w);
   }
@@ -69,7 +70,7 @@ module _ (b : List ℕ) (l : Lanes) where
   lent-refused : (number : ℕ) (d : ReadDone) → first (lendChecks b l) ≡ verdict number 0 → 0 < number → d ≡ refusedDone number 0 → ReadDoneOf b l l d
   lent-refused number d e h ed =
       let t : eqb (first (lendChecks b l) .number) 0 ≡ false = rw (e, ne-eqb number 0 (λ z. omega arith)) refl in
-      rw ed (as-read (refused (verdict number 0)) (rw (t, e) refl) l (refusedDone number 0) refl refl refl refl (rw t refl))
+      rw ed (as-read (refused (verdict number 0)) (rw (t, e) refl) l (refusedDone number 0) refl refl refl refl refl (rw t refl))
 
   pub read-unfit : (d : ReadDone) → isUnfit l ≡ true → d ≡ refusedDone 11 0 → ReadDoneOf b l l d
   read-unfit d u ed = lent-refused 11 d (first-holds (isUnfit l) 11 0 _ u) (omega arith) ed
@@ -87,7 +88,7 @@ module _ (b : List ℕ) (l : Lanes) where
       lent-read : (m : Lanes) (d : ReadDone) → ReadInto (readBook b (length (l .subj))) l m d → ReadDoneOf b l m d
       lent-read m d r =
           let t : eqb (first (lendChecks b l) .number) 0 ≡ true = rw lent refl in
-          as-read (readBook b (length (l .subj))) (rw lent refl) m d (r .verdict-is) (r .kind-is) (r .base-is) (r .count-is) (r .lanes-are ∙ rw t refl)
+          as-read (readBook b (length (l .subj))) (rw lent refl) m d (r .verdict-is) (r .kind-is) (r .base-is) (r .rules-is) (r .count-is) (r .lanes-are ∙ rw t refl)
 
       module _ (h : Head) (e : HeadOf b h) where
         pub read-headless : (m : Lanes) (d : ReadDone) → 0 < h .number → m ≡ zeroed l → d ≡ refusedDone (h .number) 0 → ReadDoneOf b l m d
@@ -124,18 +125,19 @@ module _ (b : List ℕ) (l : Lanes) where
                 zero = zero-row l;
               }
 
-          pub read-behind : (k m : Lanes) (d : ReadDone) → k ≡ zeroed l → ReadInto (fieldsOf (h .kind) (h .base) b (length (k .subj)) (h .next)) k m d → ReadDoneOf b l m d
+          pub read-behind : (k m : Lanes) (d : ReadDone) → k ≡ zeroed l → ReadInto (fieldsOf (h .kind) (h .base) (h .rules) b (length (k .subj)) (h .next)) k m d → ReadDoneOf b l m d
           unfolding readBook
           read-behind k m d ek r =
-              let z : ReadInto (fieldsOf (h .kind) (h .base) b (length (zeroed l .subj)) (h .next)) (zeroed l) m d = rw ek at r in
-              let w : readBook b (length (l .subj)) ≡ fieldsOf (h .kind) (h .base) b (length (zeroed l .subj)) (h .next)
-              = rw (passes, e .kind-is none, e .base-is none, e .next-is none, length-replicate {A = ℕ} (length (l .subj)) 0) refl in
+              let z : ReadInto (fieldsOf (h .kind) (h .base) (h .rules) b (length (zeroed l .subj)) (h .next)) (zeroed l) m d = rw ek at r in
+              let w : readBook b (length (l .subj)) ≡ fieldsOf (h .kind) (h .base) (h .rules) b (length (zeroed l .subj)) (h .next)
+              = rw (passes, e .kind-is none, e .base-is none, e .rules-is none, e .next-is none, length-replicate {A = ℕ} (length (l .subj)) 0) refl in
               lent-read m d
               (rw w
               (record {
                 verdict-is = z .verdict-is;
                 kind-is = z .kind-is;
                 base-is = z .base-is;
+                rules-is = z .rules-is;
                 count-is = z .count-is;
-                lanes-are = z .lanes-are ∙ filled-again (fieldsOf (h .kind) (h .base) b (length (zeroed l .subj)) (h .next) .rows) l;
+                lanes-are = z .lanes-are ∙ filled-again (fieldsOf (h .kind) (h .base) (h .rules) b (length (zeroed l .subj)) (h .next) .rows) l;
               }))

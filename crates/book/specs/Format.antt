@@ -1,25 +1,45 @@
 -- "Book format": what a head and a triple field are, byte by byte, and what is refused of them.
-use mathlib.Core.Bool.{Bool, not, cond, _&&_}
+use mathlib.Core.Bool.{Bool, not, cond, _&&_, _||_}
 use mathlib.Core.List.{List, [], _∷_, _++_}
 use Prim.Native.Nat.{ℕ, _+_}
 use lib.ListN.{length, getD}
 use lib.Dec.{eqb, leb}
 use Rattle.term.specs.Refusal.{Check, refuse}
 use Rattle.term.specs.Term.{termChecks, predicateChecks}
+use Rattle.ruleset.specs.RuleSet.{basicSet, reflexiveSet, ruleSetChecks}
 use Rattle.annotation.specs.Kinds.{kindChecks, annotationChecks}
 use Rattle.table.specs.Rows.{Row, row}
 use Rattle.field.specs.Numbers.{twoAt, eightAt, twoBytes, eightBytes}
 use Rattle.field.specs.Fields.{tagAt, sizeAt, isCut}
 
--- "tag 1, length 4"; "tag 3, length 14": the lengths of the values, and the sizes of the fields
-abbrev pub headLength : ℕ
-headLength = 4
+-- a head is of edition 1 or 2
+abbrev pub firstEdition : ℕ
+firstEdition = 1
 
+abbrev pub secondEdition : ℕ
+secondEdition = 2
+
+abbrev pub isEdition : ℕ → Bool
+isEdition edition = eqb edition firstEdition || eqb edition secondEdition
+
+-- "tag 1, length 4", and "edition 2 books have a head of length 5": the length that suits the edition
+abbrev pub headLength : ℕ → ℕ
+headLength edition = cond (eqb edition secondEdition) 5 4
+
+abbrev pub isHeadLength : ℕ → Bool
+isHeadLength size = eqb size (headLength firstEdition) || eqb size (headLength secondEdition)
+
+-- "The writer uses edition 2 only for rule set 2"
+abbrev pub editionFor : ℕ → ℕ
+editionFor rules = cond (eqb rules reflexiveSet) secondEdition firstEdition
+
+-- "tag 3, length 14"
 abbrev pub tripleLength : ℕ
 tripleLength = 14
 
-abbrev pub headSize : ℕ
-headSize = 3 + headLength
+-- the sizes of the fields: of the head that is written for a rule set, and of a triple
+abbrev pub headSize : ℕ → ℕ
+headSize rules = 3 + headLength (editionFor rules)
 
 abbrev pub tripleSize : ℕ
 tripleSize = 3 + tripleLength
@@ -32,7 +52,7 @@ isBase kind base = cond (eqb kind 1) (leb 1900 base && leb base 2100) (eqb base 
 abbrev pub baseChecks : ℕ → ℕ → ℕ → List Check
 baseChecks kind base place = refuse (not (isBase kind base)) 5 place ∷ []
 
--- "First the head: tag 1, length 4: edition 1, kind, base year"
+-- "First the head: tag 1, ..: edition, kind, base year"; of edition 2 "the last byte is the rule set"; "edition 1 means rule set 1"
 abbrev pub headEdition : List ℕ → ℕ
 headEdition b = getD b 3 0
 
@@ -42,17 +62,27 @@ headKind b = getD b 4 0
 abbrev pub headBase : List ℕ → ℕ
 headBase b = twoAt b 5
 
--- "3, 4, 5: edition; kind; base year"
-abbrev pub headContentChecks : List ℕ → List Check
-headContentChecks b = refuse (not (eqb (headEdition b) 1)) 3 0 ∷ (kindChecks (headKind b) 0 ++ baseChecks (headKind b) (headBase b) 0)
+abbrev pub headRules : List ℕ → ℕ
+headRules b = cond (eqb (headEdition b) secondEdition) (getD b 7 0) basicSet
 
--- "no head first (empty book included), length not 4" is 2; "cut, tag, length, content in byte order"
+-- "4, 5: kind; base year", and "36 rule set unknown, after 5"
+abbrev pub headSaysChecks : List ℕ → List Check
+headSaysChecks b = kindChecks (headKind b) 0 ++ (baseChecks (headKind b) (headBase b) 0 ++ ruleSetChecks (headRules b) 0)
+
+-- "3: edition", "2 .. again directly after 3 when (the length) doesn't suit the edition"
+abbrev pub headContentChecks : List ℕ → List Check
+headContentChecks b =
+    refuse (not (isEdition (headEdition b))) 3 0
+    ∷ refuse (not (eqb (sizeAt b 0) (headLength (headEdition b)))) 2 0
+    ∷ headSaysChecks b
+
+-- "no head first (empty book included)" is 2, and "2 when the head's length is neither 4 nor 5"; "cut, tag, length, content in byte order"
 abbrev pub headChecks : List ℕ → List Check
 headChecks b =
     refuse (eqb (length b) 0) 2 0
     ∷ refuse (isCut b 0) 1 0
     ∷ refuse (not (eqb (tagAt b 0) 1)) 2 0
-    ∷ refuse (not (eqb (sizeAt b 0) headLength)) 2 0
+    ∷ refuse (not (isHeadLength (sizeAt b 0))) 2 0
     ∷ headContentChecks b
 
 -- "Then any number of tag 3, length 14: subject, predicate, object, annotation, high byte first"
@@ -73,9 +103,12 @@ fieldChecks kind b at =
     ∷ refuse (not (eqb (sizeAt b at) tripleLength)) 7 at
     ∷ contentChecks kind (rowIn b at) at
 
--- the bytes of a head, of a triple field, of all rows' fields, of a book
-unfoldable pub headBytes : ℕ → ℕ → List ℕ
-headBytes kind base = 1 ∷ 0 ∷ headLength ∷ 1 ∷ kind ∷ twoBytes base
+-- the bytes of a head, of a triple field, of all rows' fields, of a book; a head of edition 2 ends with its rule set
+unfoldable pub rulesBytes : ℕ → List ℕ
+rulesBytes rules = cond (eqb (editionFor rules) secondEdition) (rules ∷ []) []
+
+unfoldable pub headBytes : ℕ → ℕ → ℕ → List ℕ
+headBytes kind base rules = 1 ∷ 0 ∷ headLength (editionFor rules) ∷ editionFor rules ∷ kind ∷ (twoBytes base ++ rulesBytes rules)
 
 unfoldable pub fieldBytes : Row → List ℕ
 fieldBytes r = 3 ∷ 0 ∷ tripleLength ∷ (twoBytes (r .s) ++ (twoBytes (r .p) ++ (twoBytes (r .o) ++ eightBytes (r .a))))
@@ -84,5 +117,5 @@ unfoldable pub fieldsBytes : List Row → List ℕ
 fieldsBytes [] = []
 fieldsBytes (r ∷ rs) = fieldBytes r ++ fieldsBytes rs
 
-abbrev pub bookBytes : ℕ → ℕ → List Row → List ℕ
-bookBytes kind base rows = headBytes kind base ++ fieldsBytes rows
+abbrev pub bookBytes : ℕ → ℕ → ℕ → List Row → List ℕ
+bookBytes kind base rules rows = headBytes kind base rules ++ fieldsBytes rows

@@ -1,4 +1,4 @@
--- Reading a book into lent lanes: kind, base year, rows, or a number and place.
+-- Reading a book into lent lanes: kind, base year, rule set, rows, or a number and place.
 use mathlib.Core.Path.{_≡_}
 use mathlib.Core.Bool.{Bool, true, false, cond}
 use mathlib.Core.List.{List, [], _∷_, _++_}
@@ -11,21 +11,22 @@ use Rattle.annotation.specs.Kinds.{algebra}
 use Rattle.table.specs.Rows.{Row, Lanes, addRow, filled}
 use Rattle.table.specs.Checks.{isUnfit}
 use Rattle.field.specs.Fields.{behind}
-use Rattle.book.specs.Format.{headChecks, headKind, headBase, fieldChecks, rowIn}
+use Rattle.book.specs.Format.{headChecks, headKind, headBase, headRules, fieldChecks, rowIn}
 
 -- what a book reads to
 pub record Read : Type 0 where
   pub verdict-of : Verdict
   pub kind : ℕ
   pub base : ℕ
+  pub rules : ℕ
   pub rows : List Row
 
--- "A refused reading gives kind, base year and count 0"
+-- "A refused reading gives kind, base year and count 0", and rule set 0
 abbrev pub refused : Verdict → Read
-refused v = record { verdict-of = v; kind = 0; base = 0; rows = [] }
+refused v = record { verdict-of = v; kind = 0; base = 0; rules = 0; rows = [] }
 
-abbrev pub readAs : ℕ → ℕ → List Row → Read
-readAs kind base rows = record { verdict-of = done; kind = kind; base = base; rows = rows }
+abbrev pub readAs : ℕ → ℕ → ℕ → List Row → Read
+readAs kind base rules rows = record { verdict-of = done; kind = kind; base = base; rules = rules; rows = rows }
 
 -- go on where the verdict is done (the work that follows waits behind a λ)
 abbrev pub goOn : Bool → Verdict → (Unit {0} → Read) → Read
@@ -45,21 +46,21 @@ stepChecks kind b room at rows =
     fieldChecks kind b at ++ (refuse (ltb room (length (addRow (algebra kind) (rowIn b at) rows))) 12 at ∷ [])
 
 -- "field by field"; "Order is free and equal triples join". A field has bytes of its own, so there are no more fields than bytes.
-unfoldable pub fieldsFrom : ℕ → ℕ → ℕ → List ℕ → ℕ → ℕ → List Row → Read
-fieldsFrom zero kind base b room at rows = readAs kind base rows
-fieldsFrom (suc fuel) kind base b room at rows =
-    whenMore (leb (length b) at) (readAs kind base rows)
+unfoldable pub fieldsFrom : ℕ → ℕ → ℕ → ℕ → List ℕ → ℕ → ℕ → List Row → Read
+fieldsFrom zero kind base rules b room at rows = readAs kind base rules rows
+fieldsFrom (suc fuel) kind base rules b room at rows =
+    whenMore (leb (length b) at) (readAs kind base rules rows)
     (λ _.
     whenDone (first (stepChecks kind b room at rows))
-    (λ _. fieldsFrom fuel kind base b room (behind b at) (addRow (algebra kind) (rowIn b at) rows)))
+    (λ _. fieldsFrom fuel kind base rules b room (behind b at) (addRow (algebra kind) (rowIn b at) rows)))
 
 -- all fields, the first at `start`
-abbrev pub fieldsOf : ℕ → ℕ → List ℕ → ℕ → ℕ → Read
-fieldsOf kind base b room start = fieldsFrom (length b) kind base b room start []
+abbrev pub fieldsOf : ℕ → ℕ → ℕ → List ℕ → ℕ → ℕ → Read
+fieldsOf kind base rules b room start = fieldsFrom (length b) kind base rules b room start []
 
--- the fields begin behind the head
+-- the fields begin behind the head, at 7 or 8
 unfoldable pub readBook : List ℕ → ℕ → Read
-readBook b room = whenDone (first (headChecks b)) (λ _. fieldsOf (headKind b) (headBase b) b room (behind b 0))
+readBook b room = whenDone (first (headChecks b)) (λ _. fieldsOf (headKind b) (headBase b) (headRules b) b room (behind b 0))
 
 -- "book over 65,535 bytes"
 abbrev pub longestBook : ℕ
@@ -73,9 +74,10 @@ abbrev pub reading : List ℕ → Lanes → Read
 reading b l = whenDone (first (lendChecks b l)) (λ _. readBook b (length (l .subj)))
 
 -- "11, 13 .. change nothing"; "Other refusals of reading .. leave all rows zero and count 0"; "rows past the count are all zero"
-pub record Reading (b : List ℕ) (l m : Lanes) (number place kind base count : ℕ) : Type 0 where
+pub record Reading (b : List ℕ) (l m : Lanes) (number place kind base rules count : ℕ) : Type 0 where
   pub verdict-is : verdict number place ≡ reading b l .verdict-of
   pub kind-is : kind ≡ reading b l .kind
   pub base-is : base ≡ reading b l .base
+  pub rules-is : rules ≡ reading b l .rules
   pub count-is : count ≡ length (reading b l .rows)
   pub lanes-are : m ≡ cond (eqb (first (lendChecks b l) .number) 0) (filled (reading b l .rows) l) l

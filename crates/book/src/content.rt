@@ -5,8 +5,8 @@ ghost use lib.ListN.{length};
 ghost use Rattle.term.specs.Refusal.{first};
 ghost use Rattle.field.specs.Fields.{fieldAt};
 ghost use Rattle.table.specs.Rows.{row};
-ghost use Rattle.book.specs.Format.{headSize, tripleSize, baseChecks, contentChecks};
-ghost use Rattle.book.specs.Inner.{HeadContent, HeadOf, TripleContent, ContentOf};
+ghost use Rattle.book.specs.Format.{isEdition, headLength, isHeadLength, headRules, tripleSize, baseChecks, contentChecks};
+ghost use Rattle.book.specs.Inner.{HeadField, HeadContent, HeadSuited, HeadSays, HeadOf, TripleContent, ContentOf};
 use field::FRONT;
 use field::Field;
 use field::eight;
@@ -29,12 +29,19 @@ pub const HEAD_TAG: u8 = 1;
 
 pub const TRIPLE_TAG: u8 = 3;
 
-// The lengths of the values.
-pub const HEAD_LENGTH: usize = 4;
-
 pub const TRIPLE_LENGTH: usize = 14;
 
-pub const EDITION: u8 = 1;
+pub const FIRST_EDITION: u8 = 1;
+
+pub const SECOND_EDITION: u8 = 2;
+
+// The length of a head's value in each edition; the second ends with its rule set.
+pub const FIRST_HEAD_LENGTH: usize = 4;
+
+pub const SECOND_HEAD_LENGTH: usize = 5;
+
+// Where that rule set stands.
+pub const HEAD_RULES: usize = 7;
 
 pub const FIRST_YEAR: u16 = 1900;
 
@@ -45,6 +52,7 @@ pub struct Head {
     pub number: u8,
     pub kind: u8,
     pub base: u16,
+    pub rules: u8,
     pub next: usize,
 }
 
@@ -81,30 +89,88 @@ fn no_head(number: u8) -> Head
         number,
         kind: 0,
         base: 0,
+        rules: 0,
         next: 0,
     }
 }
 
-// Edition, kind, base year of a whole head field, with `next` behind it.
-fn head_content(book: &[u8], next: usize) -> Head
-    requires { ⌜ headSize ≤ length (now book) ⌝ }
-    ensures { λ r. ⌜ HeadContent (now (book .entry)) next r ⌝ }
+fn is_edition(edition: u8) -> bool
+    ensures { λ r. ⌜ r ≡ isEdition edition ⌝ }
 {
-    if book[3] != EDITION {
-        return no_head(WRONG_EDITION);
+    if edition == FIRST_EDITION {
+        return true;
     }
+    edition == SECOND_EDITION
+}
+
+// The length that suits an edition.
+pub fn head_length(edition: u8) -> usize
+    ensures { λ r. ⌜ r ≡ headLength edition ⌝ }
+{
+    if edition == SECOND_EDITION {
+        return SECOND_HEAD_LENGTH;
+    }
+    FIRST_HEAD_LENGTH
+}
+
+fn is_head_length(size: usize) -> bool
+    ensures { λ r. ⌜ r ≡ isHeadLength size ⌝ }
+{
+    if size == FIRST_HEAD_LENGTH {
+        return true;
+    }
+    size == SECOND_HEAD_LENGTH
+}
+
+// The rule set of a head of an edition.
+fn head_rules(book: &[u8], edition: u8, next: usize) -> u8
+    requires { ⌜ HeadSuited (now book) edition next ⌝ }
+    ensures { λ r. ⌜ r ≡ headRules (now (book .entry)) ⌝ }
+{
+    if edition == SECOND_EDITION {
+        return book[HEAD_RULES];
+    }
+    ruleset::BASIC
+}
+
+// What a head of an edition and its length says, with `next` behind it.
+fn head_says(book: &[u8], edition: u8, next: usize) -> Head
+    requires { ⌜ HeadSuited (now book) edition next ⌝ }
+    ensures { λ r. ⌜ HeadSays (now (book .entry)) r ⌝ }
+{
     let kind = book[4];
     let wrong_kind = annotation::kind_refusal(kind);
     if wrong_kind > 0 {
         return no_head(wrong_kind);
     }
     let base = two(book, 5);
+    let wrong_base = base_refusal(kind, base);
+    if wrong_base > 0 {
+        return no_head(wrong_base);
+    }
+    let rules = head_rules(book, edition, next);
     Head {
-        number: base_refusal(kind, base),
+        number: ruleset::rule_set_refusal(rules),
         kind,
         base,
+        rules,
         next,
     }
+}
+
+// The content of a whole head field.
+fn head_content(book: &[u8], size: usize) -> Head
+    requires { ⌜ HeadField (now book) size ⌝ }
+    ensures { λ r. ⌜ HeadContent (now (book .entry)) r ⌝ }
+{
+    let edition = book[3];
+    if !is_edition(edition) {
+        return no_head(WRONG_EDITION);
+    }
+    if size != head_length(edition) {
+        return no_head(NO_HEAD);
+    }
+    head_says(book, edition, FRONT + size)
 }
 
 // The head at the front of a book.
@@ -119,10 +185,10 @@ pub fn head_of(book: &[u8]) -> Head
             if tag != HEAD_TAG {
                 return no_head(NO_HEAD);
             }
-            if size != HEAD_LENGTH {
+            if !is_head_length(size) {
                 return no_head(NO_HEAD);
             }
-            head_content(book, FRONT + size)
+            head_content(book, size)
         }
     }
 }

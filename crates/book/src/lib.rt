@@ -1,5 +1,5 @@
 // Fitting books: read into a table, and written from one.
-// Refused here: a cut field (1), the head (2 to 5), other fields (6, 7), their content (8, 9, 10, 28), lanes (11), room (12), length (13).
+// Refused here: a cut field (1), the head (2 to 5, 36), other fields (6, 7), their content (8, 9, 10, 28), lanes (11), room (12), length (13).
 ghost use mathlib.Core.Path.{_≡_};
 ghost use lib.ListN.{length};
 ghost use Rattle.table.specs.Lent.{before, after, lent};
@@ -16,8 +16,8 @@ use content::head_of;
 use fields::read_fields;
 use table::unfit;
 use table::wipe;
-use writing::HEAD_BYTES;
 use writing::book_length;
+use writing::head_size;
 use writing::write_fields;
 use writing::write_head;
 use writing::write_verdict;
@@ -31,10 +31,11 @@ pub struct ReadDone {
     pub place: usize,
     pub kind: u8,
     pub base: u16,
+    pub rules: u8,
     pub count: usize,
 }
 
-// A refused reading gives kind, base year and count 0.
+// A refused reading gives kind, base year, rule set and count 0.
 fn refused(number: u8, place: usize) -> ReadDone
     ensures { λ r. ⌜ r ≡ refusedDone number place ⌝ }
 {
@@ -43,6 +44,7 @@ fn refused(number: u8, place: usize) -> ReadDone
         place,
         kind: 0,
         base: 0,
+        rules: 0,
         count: 0,
     }
 }
@@ -52,6 +54,7 @@ fn read_body(
     book: &[u8],
     kind: u8,
     base: u16,
+    rules: u8,
     start: usize,
     subj: &mut [u16],
     pred: &mut [u16],
@@ -59,7 +62,7 @@ fn read_body(
     ann: &mut [u64],
 ) -> ReadDone
     requires { ⌜ Fresh kind (lent subj pred obj ann) ⌝ }
-    ensures { λ r. ⌜ ReadInto (fieldsOf kind base (now (book .entry)) (length (now (subj .entry))) start) (before subj pred obj ann) (after subj pred obj ann) r ⌝ }
+    ensures { λ r. ⌜ ReadInto (fieldsOf kind base rules (now (book .entry)) (length (now (subj .entry))) start) (before subj pred obj ann) (after subj pred obj ann) r ⌝ }
 {
     let fields = read_fields(kind, book, start, subj, pred, obj, ann);
     if fields.number > 0 {
@@ -71,6 +74,7 @@ fn read_body(
         place: 0,
         kind,
         base,
+        rules,
         count: fields.count,
     }
 }
@@ -83,7 +87,7 @@ pub fn read(
     obj: &mut [u16],
     ann: &mut [u64],
 ) -> ReadDone
-    ensures { λ r. ⌜ Reading (now (book .entry)) (before subj pred obj ann) (after subj pred obj ann) (r .number) (r .place) (r .kind) (r .base) (r .count) ⌝ }
+    ensures { λ r. ⌜ Reading (now (book .entry)) (before subj pred obj ann) (after subj pred obj ann) (r .number) (r .place) (r .kind) (r .base) (r .rules) (r .count) ⌝ }
 {
     if unfit(subj, pred, obj, ann) {
         return refused(table::LANES_UNFIT, 0);
@@ -96,7 +100,17 @@ pub fn read(
     if head.number > 0 {
         return refused(head.number, 0);
     }
-    read_body(book, head.kind, head.base, head.next, subj, pred, obj, ann)
+    read_body(
+        book,
+        head.kind,
+        head.base,
+        head.rules,
+        head.next,
+        subj,
+        pred,
+        obj,
+        ann,
+    )
 }
 
 pub struct WriteDone {
@@ -109,6 +123,7 @@ pub struct WriteDone {
 pub fn write(
     kind: u8,
     base: u16,
+    rules: u8,
     subj: &[u16],
     pred: &[u16],
     obj: &[u16],
@@ -116,9 +131,9 @@ pub fn write(
     count: usize,
     out: &mut [u8],
 ) -> WriteDone
-    ensures { λ r. ⌜ Writing kind base (before subj pred obj ann) count (now (out .entry)) (now (out .exit)) (r .number) (r .place) (r .length) ⌝ }
+    ensures { λ r. ⌜ Writing kind base rules (before subj pred obj ann) count (now (out .entry)) (now (out .exit)) (r .number) (r .place) (r .length) ⌝ }
 {
-    let verdict = write_verdict(kind, base, subj, pred, obj, ann, count, out.len());
+    let verdict = write_verdict(kind, base, rules, subj, pred, obj, ann, count, out.len());
     if verdict.number > 0 {
         return WriteDone {
             number: verdict.number,
@@ -126,11 +141,11 @@ pub fn write(
             length: 0,
         };
     }
-    write_head(out, kind, base);
-    write_fields(out, HEAD_BYTES, subj, pred, obj, ann, count);
+    write_head(out, kind, base, rules);
+    write_fields(out, head_size(rules), subj, pred, obj, ann, count);
     WriteDone {
         number: 0,
         place: 0,
-        length: book_length(count),
+        length: book_length(rules, count),
     }
 }

@@ -6,7 +6,7 @@ use native.Mathlib.Decide.{decLt}
 use native.Mathlib.Omega.{arith}
 use lib.ListN.{length}
 use Rattle.table.specs.Rows.{Row, Lanes}
-use Rattle.rhodf.specs.Rules.{Rule}
+use Rattle.rhodf.specs.Rules.{rulesOf}
 use Rattle.rhodf.specs.Closure.{ClosureOf}
 use Rattle.rhodf.proofs.Exists.{closure-exists}
 use Rattle.book.specs.Reading.{reading}
@@ -14,7 +14,7 @@ use Rattle.book.proofs.ReadsSound.{reading-sound}
 use Rattle.close_book.specs.Listed.{Listed}
 
 module _ (l : Lanes) (b x y : List ℕ) (p : Listed l b x) (q : Listed l b y) where
-  from-closure : reading b l .verdict-of .number ≡ 0 → (closed : List Row) → ClosureOf (reading b l .kind) Rule (reading b l .rows) closed
+  from-closure : reading b l .verdict-of .number ≡ 0 → (closed : List Row) → ClosureOf (reading b l .kind) (rulesOf (reading b l .rules)) (reading b l .rows) closed
       → Dec (length (l .subj) < length closed) → x ≡ y
   from-closure z closed c (yes h) = p .no-room z closed c h ∙ sym (q .no-room z closed c h)
   from-closure z closed c (no h) = p .closed z closed c (omega arith) ∙ sym (q .closed z closed c (omega arith))
@@ -23,7 +23,7 @@ module _ (l : Lanes) (b x y : List ℕ) (p : Listed l b x) (q : Listed l b y) wh
   from-reading (yes h) = p .unread h ∙ sym (q .unread h)
   from-reading (no h) =
       let z : reading b l .verdict-of .number ≡ 0 = omega arith in
-      let c = closure-exists (reading b l .kind) (reading b l .rows) (reading-sound b l .sound z) in
+      let c = closure-exists (reading b l .kind) (reading b l .rules) (reading b l .rows) (reading-sound b l .sound z) in
       from-closure z (c .0) (c .1) (decLt (length (l .subj)) (length (c .0)))
 
   pub listed-determined : x ≡ y

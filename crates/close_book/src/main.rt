@@ -46,7 +46,7 @@ fn close_listed(
     if head.number > 0 {
         return put_refused(out, head.number, head.place);
     }
-    let closed = trackvesper::close(head.kind, subj, pred, obj, ann, head.count);
+    let closed = trackvesper::close(head.kind, head.rules, subj, pred, obj, ann, head.count);
     if closed.number > 0 {
         return put_refused(out, closed.number, closed.place);
     }

@@ -1,4 +1,5 @@
--- The rows past the count, and what saturating comes to.
+-- The checks, the rows past the count, and what saturating comes to.
+pub mod Judging
 pub mod Wiping
 pub mod Whole
 -- What is shown of the public call.

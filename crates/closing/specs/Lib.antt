@@ -1,2 +1,3 @@
--- What a done closing leaves, and what is refused: the definition that the contract of `close`, and every crate above, cites.
+-- What a done closing leaves, and what is refused: the definitions that the contract of `close`, and every crate above, cites.
+pub mod Checks
 pub mod Closing

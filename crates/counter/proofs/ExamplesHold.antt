@@ -6,11 +6,10 @@ use native.Mathlib.Omega.{arith}
 use lib.ListN.{length, take}
 use Rattle.ground.specs.Lists.{tab, each, allBelow}
 use Rattle.term.specs.Refusal.{verdict, first}
+use Rattle.ruleset.specs.RuleSet.{basicSet, isRuleSet}
 use Rattle.annotation.specs.Kinds.{algebra, isKind}
 use Rattle.table.specs.Rows.{Row, row, addRow}
 use Rattle.field.specs.Numbers.{twoAt, fourAt, eightAt}
-use Rattle.rhodf.specs.Rules.{Rule}
-use Rattle.rhodf.specs.Closure.{ClosureOf}
 use Rattle.rhodf.proofs.ExamplesHold.{examples-hold}
 use Rattle.book.specs.Format.{rowIn}
 use Rattle.book.specs.Reading.{readAs, refused, fieldsFrom, readBook}
@@ -37,23 +36,23 @@ p1Rows = row 10 2 11 120 ∷ row 11 1 12 2016 ∷ []
 abbrev p1Closed : List Row
 p1Closed = row 10 2 11 120 ∷ row 10 2 12 96 ∷ row 11 1 12 2016 ∷ []
 
-p1-said : said p1Book ≡ readAs 1 2000 p1Rows
-unfolding first readBook fieldsFrom rowIn twoAt fourAt eightAt algebra isKind addRow
+p1-said : said p1Book ≡ readAs 1 2000 basicSet p1Rows
+unfolding first isRuleSet readBook fieldsFrom rowIn twoAt fourAt eightAt algebra isKind addRow
 p1-said = refl
 
 -- behind P1's book
 after-book : {looks : ℕ} {text : List ℕ} (rest : List ℕ) → Counted looks (behindItsLength p1Book ++ rest) text → next (behindItsLength p1Book ++ rest) ≡ whole p1Book rest
-    → Asks looks 1 p1Rows rest text
+    → Asks looks 1 basicSet p1Rows rest text
 after-book rest c e = rw p1-said at (counted-opened c e (rw p1-said refl))
 
 -- and of P1's book with what stands behind it
-with-book : {looks : ℕ} {text : List ℕ} (rest : List ℕ) → next (behindItsLength p1Book ++ rest) ≡ whole p1Book rest → Asks looks 1 p1Rows rest text
+with-book : {looks : ℕ} {text : List ℕ} (rest : List ℕ) → next (behindItsLength p1Book ++ rest) ≡ whole p1Book rest → Asks looks 1 basicSet p1Rows rest text
     → Counted looks (behindItsLength p1Book ++ rest) text
 with-book {looks} {text} rest e a = opened {text = text} p1Book rest e (rw p1-said refl) (rw p1-said a)
 
 -- one question
-asked-once : {looks : ℕ} {text : List ℕ} (q rest : List ℕ) → Asks looks 1 p1Rows (behindItsLength q ++ rest) text → next (behindItsLength q ++ rest) ≡ whole q rest
-    → Asked looks 1 p1Closed q rest text
+asked-once : {looks : ℕ} {text : List ℕ} (q rest : List ℕ) → Asks looks 1 basicSet p1Rows (behindItsLength q ++ rest) text → next (behindItsLength q ++ rest) ≡ whole q rest
+    → Asked looks 1 basicSet p1Closed q rest text
 asked-once q rest a e = asks-asked a e (examples-hold .0) (omega arith)
 
 module _ (looks : ℕ) (o : Outcome) (comes : comesTo 1 p1Closed looks both-classes-bytes ≡ o) where
@@ -122,7 +121,7 @@ cut-question =
     )
 
 none-said : said [] ≡ refused (verdict 2 0)
-unfolding first readBook fieldsFrom rowIn twoAt fourAt eightAt algebra isKind addRow
+unfolding first isRuleSet readBook fieldsFrom rowIn twoAt fourAt eightAt algebra isKind addRow
 none-said = refl
 
 none-counted : Counted allLooks (behindItsLength []) (refusedLine 2 0)

@@ -5,10 +5,9 @@ use mathlib.Core.List.{List, []}
 use Prim.Native.Nat.{ℕ, _-_, _≤_, _<_}
 use native.Mathlib.Omega.{arith}
 use lib.ListN.{length, take, drop}
+use Rattle.ruleset.specs.RuleSet.{isRuleSet}
 use Rattle.table.specs.Rows.{Row, Lanes, rowsOf}
 use Rattle.table.specs.Sound.{Sound}
-use Rattle.rhodf.specs.Rules.{Rule}
-use Rattle.rhodf.specs.Closure.{ClosureOf}
 use Rattle.book.specs.Reading.{Reading}
 use Rattle.closing.specs.Closing.{Closing}
 use Rattle.trackvesper.specs.ClosedBook.{freshLanes, said}
@@ -24,6 +23,7 @@ use Rattle.trackvesper.proofs.ReadAndClosed.{
   is-number,
   is-place,
   zero-number,
+  known-rules,
   read-sound,
   read-as-long,
   read-rows,
@@ -70,43 +70,46 @@ over-ended over e out = record { is-over = refl; says = fronted-none (Is (cond o
 -- ---- the book
 
 module _ (s : List ℕ) (over : Bool) (end : ℕ) (out : List ℕ) (room : askedRoom ≤ length out) (out′ : List ℕ) (laid : ℕ) where
-  pub open-short : Came s over false end → (kind : ℕ) (m : Lanes) (n : ℕ) → Laid out out′ 0 laid (refusedLine 1 0) → Fronted (Opening s true kind m n) out out′ laid
-  open-short c kind m n p =
-      laid-front (Opening s true kind m n) out out′ (refusedLine 1 0) laid (omega (arith, refused-long 1 0, room))
+  pub open-short : Came s over false end → (kind rules : ℕ) (m : Lanes) (n : ℕ) → Laid out out′ 0 laid (refusedLine 1 0) → Fronted (Opening s true kind rules m n) out out′ laid
+  open-short c kind rules m n p =
+      laid-front (Opening s true kind rules m n) out out′ (refusedLine 1 0) laid (omega (arith, refused-long 1 0, room))
       (record {
         no-book = λ e. (refl, refl);
         cut-book = λ e. (refl, refl);
         unread = λ b rest e. absurd (not-whole c b rest e);
         opened = λ b rest e. absurd (not-whole c b rest e);
         ready = λ e. absurd (true-not-false e);
+        rules-known = λ e. absurd (true-not-false e);
       })
       p
 
-  module _ (c : Came s over true end) (m : Lanes) (number place kind base count : ℕ) (read : Reading (take (end - 2) (drop 2 s)) freshLanes m number place kind base count) where
+  module _ (c : Came s over true end) (m : Lanes) (number place kind base rules count : ℕ)
+      (read : Reading (take (end - 2) (drop 2 s)) freshLanes m number place kind base rules count) where
     abbrev book : List ℕ
     book = take (end - 2) (drop 2 s)
 
     is-book : (b rest : List ℕ) → next s ≡ whole b rest → b ≡ book
     is-book b rest e = same-whole e (is-whole c) .0
 
-    pub open-unread : 0 < number → (k : ℕ) (l : Lanes) (n : ℕ) → Laid out out′ 0 laid (refusedLine number place) → Fronted (Opening s true k l n) out out′ laid
-    open-unread h k l n p =
-        let x = is-number book freshLanes m number place kind base count read in
-        let y = is-place book freshLanes m number place kind base count read in
-        laid-front (Opening s true k l n) out out′ (refusedLine number place) laid (omega (arith, refused-long number place, room))
+    pub open-unread : 0 < number → (k u : ℕ) (l : Lanes) (n : ℕ) → Laid out out′ 0 laid (refusedLine number place) → Fronted (Opening s true k u l n) out out′ laid
+    open-unread h k u l n p =
+        let x = is-number book freshLanes m number place kind base rules count read in
+        let y = is-place book freshLanes m number place kind base rules count read in
+        laid-front (Opening s true k u l n) out out′ (refusedLine number place) laid (omega (arith, refused-long number place, room))
         (record {
           no-book = λ e. absurd (ended-not-whole e (is-whole c));
           cut-book = λ e. absurd (cut-not-whole e (is-whole c));
           unread = λ b rest e q. (refl, rw (is-book b rest e, x, y) refl);
           opened = λ b rest e z. absurd (omega (arith, x, ap (λ (t : List ℕ). said t .verdict-of .number) (is-book b rest e)));
           ready = λ e. absurd (true-not-false e);
+          rules-known = λ e. absurd (true-not-false e);
         })
         p
 
-    pub open-done : number ≤ 0 → Fronted (Opening s false kind m count) out out 0
+    pub open-done : number ≤ 0 → Fronted (Opening s false kind rules m count) out out 0
     open-done z =
-        let x = zero-number book freshLanes m number place kind base count read z in
-        fronted-none (Opening s false kind m count) out
+        let x = zero-number book freshLanes m number place kind base rules count read z in
+        fronted-none (Opening s false kind rules m count) out
         (record {
           no-book = λ e. absurd (ended-not-whole e (is-whole c));
           cut-book = λ e. absurd (cut-not-whole e (is-whole c));
@@ -115,15 +118,17 @@ module _ (s : List ℕ) (over : Bool) (end : ℕ) (out : List ℕ) (room : asked
             refl,
             refl,
             rw (is-book b rest e) (read .kind-is),
-            rw (is-book b rest e) (read-rows book freshLanes m number place kind base count read z),
+            rw (is-book b rest e) (read .rules-is),
+            rw (is-book b rest e) (read-rows book freshLanes m number place kind base rules count read z),
           );
-          ready = λ _. record { sound = read-sound book freshLanes m number place kind base count read z; room = read-as-long book freshLanes m number place kind base count read z .same-subj };
+          ready = λ _. record { sound = read-sound book freshLanes m number place kind base rules count read z; room = read-as-long book freshLanes m number place kind base rules count read z .same-subj };
+          rules-known = λ _. known-rules book freshLanes m number place kind base rules count read z;
         })
 
 -- ---- a question
 
-module _ (looks kind : ℕ) (l : Lanes) (n : ℕ) (ready : Ready kind l n) (s : List ℕ) (over : Bool) (end : ℕ) (out out′ : List ℕ) (laid : ℕ) where
-  pub turn-none : Came s over false end → (all : Bool) (m : Lanes) (k : ℕ) → Over over out out′ all laid → Fronted (Turned looks kind (rowsOf l n) s all m k) out out′ laid
+module _ (looks kind rules : ℕ) (known : isRuleSet rules ≡ true) (l : Lanes) (n : ℕ) (ready : Ready kind l n) (s : List ℕ) (over : Bool) (end : ℕ) (out out′ : List ℕ) (laid : ℕ) where
+  pub turn-none : Came s over false end → (all : Bool) (m : Lanes) (k : ℕ) → Over over out out′ all laid → Fronted (Turned looks kind rules (rowsOf l n) s all m k) out out′ laid
   turn-none c all m k o =
       fronted-as (λ t p. record {
         no-more = λ e. (o .is-over, p ∙ says-nothing over (c .is-next) e);
@@ -141,16 +146,16 @@ module _ (looks kind : ℕ) (l : Lanes) (n : ℕ) (ready : Ready kind l n) (s : 
       says-cut true h e = absurd (ended-not-cut h e)
       says-cut false h e = refl
 
-  module _ (c : Came s over true end) (m : Lanes) (number place count : ℕ) (close : Closing kind l n m number place count) where
-    pub turn-full : 0 < number → askedRoom ≤ length out → (k : ℕ) → Laid out out′ 0 laid (refusedLine number place) → Fronted (Turned looks kind (rowsOf l n) s true m k) out out′ laid
+  module _ (c : Came s over true end) (m : Lanes) (number place count : ℕ) (close : Closing kind rules l n m number place count) where
+    pub turn-full : 0 < number → askedRoom ≤ length out → (k : ℕ) → Laid out out′ 0 laid (refusedLine number place) → Fronted (Turned looks kind rules (rowsOf l n) s true m k) out out′ laid
     turn-full h room k p =
-        let v = full-is kind l n (ready .sound) m number place count close h in
-        laid-front (Turned looks kind (rowsOf l n) s true m k) out out′ (refusedLine number place) laid (omega (arith, refused-long number place, room))
+        let v = full-is kind rules known l n (ready .sound) m number place count close h in
+        laid-front (Turned looks kind rules (rowsOf l n) s true m k) out out′ (refusedLine number place) laid (omega (arith, refused-long number place, room))
         (record {
           no-more = λ e. absurd (ended-not-whole e (is-whole c));
           cut-short = λ e. absurd (cut-not-whole e (is-whole c));
           no-room = λ q rest e closed d f. (refl, rw (number-of v, place-of v) refl);
-          asked = λ q rest e closed d f. absurd (full kind l n (ready .sound) m number place count close h closed d (omega (arith, f, ready .room)));
+          asked = λ q rest e closed d f. absurd (full kind rules known l n (ready .sound) m number place count close h closed d (omega (arith, f, ready .room)));
           ready = λ e. absurd (true-not-false e);
         })
         p
@@ -158,18 +163,18 @@ module _ (looks kind : ℕ) (l : Lanes) (n : ℕ) (ready : Ready kind l n) (s : 
     module _ (z : number ≤ 0) where
       pub closed-ready : Ready kind m count
       closed-ready = record {
-        sound = closed-sound kind l n (ready .sound) m number place count close z;
-        room = closed-as-long kind l n (ready .sound) m number place count close z .same-subj ∙ ready .room;
+        sound = closed-sound kind rules known l n (ready .sound) m number place count close z;
+        room = closed-as-long kind rules known l n (ready .sound) m number place count close z .same-subj ∙ ready .room;
       }
 
-      pub turn-asked : Fronted (Is (askedLines (comesTo kind (rowsOf m count) looks (take (end - 2) (drop 2 s))))) out out′ laid → Fronted (Turned looks kind (rowsOf l n) s false m count) out out′ laid
+      pub turn-asked : Fronted (Is (askedLines (comesTo kind (rowsOf m count) looks (take (end - 2) (drop 2 s))))) out out′ laid → Fronted (Turned looks kind rules (rowsOf l n) s false m count) out out′ laid
       turn-asked p =
           fronted-as (λ t w. record {
             no-more = λ e. absurd (ended-not-whole e (is-whole c));
             cut-short = λ e. absurd (cut-not-whole e (is-whole c));
-            no-room = λ q rest e closed d f. absurd (not-full kind l n (ready .sound) m number place count close z closed d (omega (arith, f, ready .room)));
+            no-room = λ q rest e closed d f. absurd (not-full kind rules known l n (ready .sound) m number place count close z closed d (omega (arith, f, ready .room)));
             asked = λ q rest e closed d f.
-                let same = closed-rows kind l n (ready .sound) m number place count close z closed d (omega (arith, f, ready .room)) in
+                let same = closed-rows kind rules known l n (ready .sound) m number place count close z closed d (omega (arith, f, ready .room)) in
                 (refl, w ∙ rw (same, same-whole e (is-whole c) .0) refl, same);
             ready = λ _. closed-ready;
           }) p

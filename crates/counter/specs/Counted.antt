@@ -8,7 +8,7 @@ use lib.Dec.{ltb}
 use Rattle.ground.specs.Lists.{each}
 use Rattle.annotation.specs.Kinds.{algebra}
 use Rattle.table.specs.Rows.{Row}
-use Rattle.rhodf.specs.Rules.{Rule}
+use Rattle.rhodf.specs.Rules.{rulesOf}
 use Rattle.rhodf.specs.Closure.{ClosureOf}
 use Rattle.question.specs.Compiling.{Final, steps, refused, compiling}
 use Rattle.answers.specs.declared.bindings.Bindings.{Bindings}
@@ -49,17 +49,17 @@ lineOf b = answerLine (b .terms) (b .anns)
 abbrev pub askedLines : Outcome → List ℕ
 askedLines o = askedLine (o .number) (o .place) (length (o .given)) (o .looks) ++ each lineOf (o .given)
 
--- "then questions to the end": the text for the input behind the book, over a table of these rows
-pub data Asks (looks kind : ℕ) : List Row → List ℕ → List ℕ → Type 0 where
-  no-more : {rows : List Row} {s : List ℕ} → next s ≡ ended → Asks looks kind rows s []
+-- "then questions to the end": the text for the input behind the book, over a table of these rows, closed under the book's rule set
+pub data Asks (looks kind rules : ℕ) : List Row → List ℕ → List ℕ → Type 0 where
+  no-more : {rows : List Row} {s : List ℕ} → next s ≡ ended → Asks looks kind rules rows s []
   -- "Input cut short prints `refused 1 0`"
-  cut-short : {rows : List Row} {s : List ℕ} → next s ≡ cut → Asks looks kind rows s (refusedLine 1 0)
+  cut-short : {rows : List Row} {s : List ℕ} → next s ≡ cut → Asks looks kind rules rows s (refusedLine 1 0)
   -- "a refused .. closing prints `refused` too and ends it": no room for 1,024 rows
-  no-room : {rows : List Row} {s : List ℕ} (q rest : List ℕ) (closed : List Row) → next s ≡ whole q rest → ClosureOf kind Rule rows closed → 1024 < length closed
-      → Asks looks kind rows s (refusedLine 12 0)
+  no-room : {rows : List Row} {s : List ℕ} (q rest : List ℕ) (closed : List Row) → next s ≡ whole q rest → ClosureOf kind (rulesOf rules) rows closed → 1024 < length closed
+      → Asks looks kind rules rows s (refusedLine 12 0)
   -- "before each question it closes the table, then prints .."
-  asks : {rows : List Row} {s more : List ℕ} (q rest : List ℕ) (closed : List Row) → next s ≡ whole q rest → ClosureOf kind Rule rows closed → length closed ≤ 1024
-      → Asks looks kind closed rest more → Asks looks kind rows s (askedLines (comesTo kind closed looks q) ++ more)
+  asks : {rows : List Row} {s more : List ℕ} (q rest : List ℕ) (closed : List Row) → next s ≡ whole q rest → ClosureOf kind (rulesOf rules) rows closed → length closed ≤ 1024
+      → Asks looks kind rules closed rest more → Asks looks kind rules rows s (askedLines (comesTo kind closed looks q) ++ more)
 
 -- "reads a book, then questions": the text for the whole input
 pub data Counted (looks : ℕ) : List ℕ → List ℕ → Type 0 where
@@ -70,7 +70,7 @@ pub data Counted (looks : ℕ) : List ℕ → List ℕ → Type 0 where
   unread : {s : List ℕ} (b rest : List ℕ) → next s ≡ whole b rest → 0 < said b .verdict-of .number
       → Counted looks s (refusedLine (said b .verdict-of .number) (said b .verdict-of .place))
   -- the book's table, and the questions
-  opened : {s text : List ℕ} (b rest : List ℕ) → next s ≡ whole b rest → said b .verdict-of .number ≡ 0 → Asks looks (said b .kind) (said b .rows) rest text
+  opened : {s text : List ℕ} (b rest : List ℕ) → next s ≡ whole b rest → said b .verdict-of .number ≡ 0 → Asks looks (said b .kind) (said b .rules) (said b .rows) rest text
       → Counted looks s text
 
 -- "It allows .. 4,294,967,295 looks" (P12 allows fewer)

@@ -20,13 +20,13 @@ front s = take (reach s) s
 abbrev pub behind : List ℕ → List ℕ
 behind s = drop (reach s) s
 
-pub data Answers (looks kind : ℕ) : Lanes → ℕ → List ℕ → List ℕ → Type 0 where
-  last-turn : {l : Lanes} {n : ℕ} {s text : List ℕ} (m : Lanes) (count : ℕ) → Turned looks kind (rowsOf l n) (front s) true m count text
-      → Answers looks kind l n s text
-  one-turn : {l : Lanes} {n : ℕ} {s text more : List ℕ} (m : Lanes) (count : ℕ) → Turned looks kind (rowsOf l n) (front s) false m count text
-      → Answers looks kind m count (behind s) more → Answers looks kind l n s (text ++ more)
+pub data Answers (looks kind rules : ℕ) : Lanes → ℕ → List ℕ → List ℕ → Type 0 where
+  last-turn : {l : Lanes} {n : ℕ} {s text : List ℕ} (m : Lanes) (count : ℕ) → Turned looks kind rules (rowsOf l n) (front s) true m count text
+      → Answers looks kind rules l n s text
+  one-turn : {l : Lanes} {n : ℕ} {s text more : List ℕ} (m : Lanes) (count : ℕ) → Turned looks kind rules (rowsOf l n) (front s) false m count text
+      → Answers looks kind rules m count (behind s) more → Answers looks kind rules l n s (text ++ more)
 
 pub data Runs (looks : ℕ) : List ℕ → List ℕ → Type 0 where
-  book-alone : {s text : List ℕ} (kind : ℕ) (m : Lanes) (count : ℕ) → Opening (front s) true kind m count text → Runs looks s text
-  book-first : {s text more : List ℕ} (kind : ℕ) (m : Lanes) (count : ℕ) → Opening (front s) false kind m count text
-      → Answers looks kind m count (behind s) more → Runs looks s (text ++ more)
+  book-alone : {s text : List ℕ} (kind rules : ℕ) (m : Lanes) (count : ℕ) → Opening (front s) true kind rules m count text → Runs looks s text
+  book-first : {s text more : List ℕ} (kind rules : ℕ) (m : Lanes) (count : ℕ) → Opening (front s) false kind rules m count text
+      → Answers looks kind rules m count (behind s) more → Runs looks s (text ++ more)

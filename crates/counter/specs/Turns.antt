@@ -4,9 +4,10 @@ use mathlib.Core.Bool.{Bool, true, false, cond}
 use mathlib.Core.List.{List, []}
 use Prim.Native.Nat.{ℕ, _-_, _≤_, _<_}
 use lib.ListN.{length, take, drop}
+use Rattle.ruleset.specs.RuleSet.{isRuleSet}
 use Rattle.table.specs.Rows.{Row, Lanes, rowsOf}
 use Rattle.table.specs.Sound.{Sound}
-use Rattle.rhodf.specs.Rules.{Rule}
+use Rattle.rhodf.specs.Rules.{rulesOf}
 use Rattle.rhodf.specs.Closure.{ClosureOf}
 use Rattle.trackvesper.specs.ClosedBook.{said}
 use Rattle.printing.specs.Text.{refusedLine}
@@ -39,22 +40,23 @@ pub record Ready (kind : ℕ) (l : Lanes) (n : ℕ) : Type 0 where
   pub sound : Sound kind l n
   pub room : length (l .subj) ≡ 1024
 
--- the text for the book's bytes, whether that is all, and otherwise the book's rows
-pub record Opening (s : List ℕ) (over : Bool) (kind : ℕ) (l : Lanes) (n : ℕ) (text : List ℕ) : Type 0 where
+-- the text for the book's bytes, whether that is all, and otherwise the book's rows and its rule set
+pub record Opening (s : List ℕ) (over : Bool) (kind rules : ℕ) (l : Lanes) (n : ℕ) (text : List ℕ) : Type 0 where
   pub no-book : next s ≡ ended → (over ≡ true) × (text ≡ refusedLine 1 0)
   pub cut-book : next s ≡ cut → (over ≡ true) × (text ≡ refusedLine 1 0)
   pub unread : (b rest : List ℕ) → next s ≡ whole b rest → 0 < said b .verdict-of .number
       → (over ≡ true) × (text ≡ refusedLine (said b .verdict-of .number) (said b .verdict-of .place))
   pub opened : (b rest : List ℕ) → next s ≡ whole b rest → said b .verdict-of .number ≡ 0
-      → (over ≡ false) × (text ≡ []) × (kind ≡ said b .kind) × (rowsOf l n ≡ said b .rows)
+      → (over ≡ false) × (text ≡ []) × (kind ≡ said b .kind) × (rules ≡ said b .rules) × (rowsOf l n ≡ said b .rows)
   pub ready : over ≡ false → Ready kind l n
+  pub rules-known : over ≡ false → isRuleSet rules ≡ true
 
 -- the text for a question's bytes over a table of these rows, whether that is all, and otherwise the closed table
-pub record Turned (looks kind : ℕ) (rows : List Row) (s : List ℕ) (over : Bool) (l : Lanes) (n : ℕ) (text : List ℕ) : Type 0 where
+pub record Turned (looks kind rules : ℕ) (rows : List Row) (s : List ℕ) (over : Bool) (l : Lanes) (n : ℕ) (text : List ℕ) : Type 0 where
   pub no-more : next s ≡ ended → (over ≡ true) × (text ≡ [])
   pub cut-short : next s ≡ cut → (over ≡ true) × (text ≡ refusedLine 1 0)
-  pub no-room : (q rest : List ℕ) → next s ≡ whole q rest → (closed : List Row) → ClosureOf kind Rule rows closed → 1024 < length closed
+  pub no-room : (q rest : List ℕ) → next s ≡ whole q rest → (closed : List Row) → ClosureOf kind (rulesOf rules) rows closed → 1024 < length closed
       → (over ≡ true) × (text ≡ refusedLine 12 0)
-  pub asked : (q rest : List ℕ) → next s ≡ whole q rest → (closed : List Row) → ClosureOf kind Rule rows closed → length closed ≤ 1024
+  pub asked : (q rest : List ℕ) → next s ≡ whole q rest → (closed : List Row) → ClosureOf kind (rulesOf rules) rows closed → length closed ≤ 1024
       → (over ≡ false) × (text ≡ askedLines (comesTo kind closed looks q)) × (rowsOf l n ≡ closed)
   pub ready : over ≡ false → Ready kind l n

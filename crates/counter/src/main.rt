@@ -1,8 +1,11 @@
 // The counter's program: a book, then questions to the end of the input, each behind a length of two bytes.
 // For each question `asked NUMBER PLACE COUNT LOOKS` and a line for each answer; `refused NUMBER PLACE` ends it.
+ghost use mathlib.Core.Path.{_≡_};
+ghost use mathlib.Core.Bool.{true};
 ghost use Prim.Native.Nat.{_+_, _≤_};
 ghost use lib.ListN.{length};
 ghost use Rattle.io.specs.Counts.{Counts};
+ghost use Rattle.ruleset.specs.RuleSet.{isRuleSet};
 ghost use Rattle.table.specs.Lent.{lent};
 ghost use Rattle.counter.specs.Turns.{Ready, askedRoom};
 use libc::STDIN_FILENO;
@@ -36,6 +39,7 @@ fn main() {
     }
     answer_all(
         book.kind,
+        book.rules,
         &mut subj,
         &mut pred,
         &mut obj,
@@ -71,6 +75,7 @@ fn read_part(bytes: &mut [u8], from: usize, to: usize) -> usize
 // A proved loop has to end, and nothing says that the input does: the turns are counted down from a number that no run uses up.
 fn answer_all(
     kind: u8,
+    rules: u8,
     subj: &mut [u16],
     pred: &mut [u16],
     obj: &mut [u16],
@@ -79,7 +84,7 @@ fn answer_all(
     bytes: &mut [u8],
     text: &mut [u8],
 )
-    requires { ⌜ Ready kind (lent subj pred obj ann) count × (65537 ≤ length (now bytes)) × (askedRoom ≤ length (now text)) ⌝ }
+    requires { ⌜ Ready kind (lent subj pred obj ann) count × (65537 ≤ length (now bytes)) × (askedRoom ≤ length (now text)) × (isRuleSet rules ≡ true) ⌝ }
 {
     let mut terms = [0u16; 4096];
     let mut anns = [0u64; 2048];
@@ -89,6 +94,7 @@ fn answer_all(
         let size = read_next(bytes);
         let turn = turns::answer(
             kind,
+            rules,
             &bytes[..size],
             subj,
             pred,

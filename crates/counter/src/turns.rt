@@ -3,6 +3,7 @@ ghost use mathlib.Core.Path.{_≡_};
 ghost use mathlib.Core.Bool.{true};
 ghost use Prim.Native.Nat.{_≤_};
 ghost use lib.ListN.{length};
+ghost use Rattle.ruleset.specs.RuleSet.{isRuleSet};
 ghost use Rattle.table.specs.Rows.{rowsOf};
 ghost use Rattle.table.specs.Lent.{lent, before, after};
 ghost use Rattle.trackvesper.specs.ClosedBook.{freshLanes};
@@ -14,10 +15,11 @@ use printing::asked::put_asked;
 use printing::lines::put_refused;
 use trackvesper::CUT;
 
-// Whether this was all; else the table's kind and rows; how much was laid.
+// Whether this was all; else the table's kind, rule set and rows; how much was laid.
 pub struct Opened {
     pub over: bool,
     pub kind: u8,
+    pub rules: u8,
     pub rows: usize,
     pub size: usize,
 }
@@ -31,7 +33,7 @@ pub fn open_book(
     out: &mut [u8],
 ) -> Opened
     requires { ⌜ (lent subj pred obj ann ≡ freshLanes) × (askedRoom ≤ length (now out)) ⌝ }
-    ensures { λ r. ⌜ Fronted (Opening (now (s .entry)) (r .over) (r .kind) (after subj pred obj ann) (r .rows)) (now (out .entry)) (now (out .exit)) (r .size) ⌝ }
+    ensures { λ r. ⌜ Fronted (Opening (now (s .entry)) (r .over) (r .kind) (r .rules) (after subj pred obj ann) (r .rows)) (now (out .entry)) (now (out .exit)) (r .size) ⌝ }
 {
     let part = part_of(s);
     if !part.whole {
@@ -47,6 +49,7 @@ pub fn open_book(
     Opened {
         over: false,
         kind: head.kind,
+        rules: head.rules,
         rows: head.count,
         size: 0,
     }
@@ -58,6 +61,7 @@ fn no_table(size: usize) -> Opened
     Opened {
         over: true,
         kind: 0,
+        rules: 0,
         rows: 0,
         size,
     }
@@ -73,6 +77,7 @@ pub struct Turn {
 // A question that is cut is seen before the closing that would have come before it.
 pub fn answer(
     kind: u8,
+    rules: u8,
     s: &[u8],
     subj: &mut [u16],
     pred: &mut [u16],
@@ -84,14 +89,14 @@ pub fn answer(
     anns: &mut [u64],
     out: &mut [u8],
 ) -> Turn
-    requires { ⌜ Ready kind (lent subj pred obj ann) count × (length (now terms) ≡ 4096) × (length (now anns) ≡ 2048) × (askedRoom ≤ length (now out)) ⌝ }
-    ensures { λ r. ⌜ Fronted (Turned looks kind (rowsOf (before subj pred obj ann) count) (now (s .entry)) (r .over) (after subj pred obj ann) (r .rows)) (now (out .entry)) (now (out .exit)) (r .size) ⌝ }
+    requires { ⌜ Ready kind (lent subj pred obj ann) count × (length (now terms) ≡ 4096) × (length (now anns) ≡ 2048) × (askedRoom ≤ length (now out)) × (isRuleSet rules ≡ true) ⌝ }
+    ensures { λ r. ⌜ Fronted (Turned looks kind rules (rowsOf (before subj pred obj ann) count) (now (s .entry)) (r .over) (after subj pred obj ann) (r .rows)) (now (out .entry)) (now (out .exit)) (r .size) ⌝ }
 {
     let part = part_of(s);
     if !part.whole {
         return no_question(part.ended, out);
     }
-    let closed = trackvesper::close(kind, subj, pred, obj, ann, count);
+    let closed = trackvesper::close(kind, rules, subj, pred, obj, ann, count);
     if closed.number > 0 {
         let size = put_refused(out, closed.number, closed.place);
         return Turn {

@@ -69,8 +69,8 @@ fn is_label_byte(x: u8) -> bool
     ensures { λ r. ⌜ (r ≡ true → labelByte x ≡ true) ⌝ }
 {
     let letter = ((0x61 <= x) & (x <= 0x7A)) | ((0x41 <= x) & (x <= 0x5A));
-    let digit = (0x30 <= x) & (x <= 0x3A);
-    (letter | digit) | ((x == 0x2D) | (x == 0x5F))
+    let digit_or_colon = (0x30 <= x) & (x <= 0x3A);
+    (letter | digit_or_colon) | ((x == 0x2D) | (x == 0x5F))
 }
 
 // Behind the bytes from `at` on that a label goes on with.

@@ -36,6 +36,7 @@ module _ (K : Algebra) (L : Laws K) (G : Graph) (v : Valued K G) (plan : Plan) w
         let t = triple (plan .q) (plan .r) z in
         met-lower z (K .meet a (G t)) (K .meet a′ (G t)) (L .meet-value a (G t) va (v .value t)) (L .meet-value a′ (G t) va′ (v .value t))
         (meet-at-most-left K L a a′ (G t) va va′ (v .value t) low) (o .met z);
+    alone = λ e named. at-most-trans K L a a′ _ low (o .alone e named);
   }
 
 -- all of a list, by their index

@@ -3,7 +3,8 @@
 ghost use mathlib.Core.Path.{_≡_};
 ghost use mathlib.Core.Bool.{cond};
 ghost use Rattle.table.specs.Rows.{triple};
-ghost use Rattle.plans.specs.Plans.{shapeOff, shapeStraight, offPlan, straightIf, renamingPlan, behindPlan, planAt, plansFor};
+ghost use Rattle.plans.specs.Plans.{shapeOff, shapeStraight, shapeAlone, offPlan, straightIf, renamingPlan, behindPlan, aloneIf, planAt, planCount, reflexivePlans, allPlans};
+use ruleset::REFLEXIVE;
 use term::DOM;
 use term::RANGE;
 use term::SC;
@@ -11,7 +12,7 @@ use term::SP;
 use term::TYPE;
 
 // The shapes of a plan: there is nothing to do; each row (q r z) gives (s p z); each gives (s z o);
-// each leads to the rows (z t w), and each of these gives (s p w).
+// each leads to the rows (z t w), and each of these gives (s p w); no row is looked for, and the plan itself gives (s p o).
 pub const OFF: u8 = 0;
 
 const STRAIGHT: u8 = 1;
@@ -19,6 +20,8 @@ const STRAIGHT: u8 = 1;
 pub const RENAMING: u8 = 2;
 
 pub const BEHIND: u8 = 3;
+
+pub const ALONE: u8 = 4;
 
 pub struct Plan {
     pub shape: u8,
@@ -80,6 +83,28 @@ fn behind_plan(q: u16, r: u16, t: u16, s: u16, p: u16) -> Plan
     }
 }
 
+fn alone_or_off(on: bool) -> u8
+    ensures { λ r. ⌜ r ≡ cond on shapeAlone shapeOff ⌝ }
+{
+    if on { ALONE } else { OFF }
+}
+
+// (s p s) by itself, where `on`.
+fn alone_plan(on: bool, s: u16, p: u16) -> Plan
+    ensures { λ plan. ⌜ plan ≡ aloneIf on s p ⌝ }
+{
+    let shape = alone_or_off(on);
+    Plan {
+        shape,
+        q: s,
+        r: p,
+        t: p,
+        s,
+        p,
+        o: s,
+    }
+}
+
 fn off_plan() -> Plan
     ensures { λ plan. ⌜ plan ≡ offPlan ⌝ }
 {
@@ -94,11 +119,43 @@ fn off_plan() -> Plan
     }
 }
 
-pub const RULES: u8 = 8;
+// The rules, and the rules with the reflexive lines of rule set 2.
+const RULES: u8 = 8;
 
-// The plan of a rule for the row (x d y): 2a, 2b, 3a, 3b, 4a, 4b, 5a, 5b.
+const RULES_AND_LINES: u8 = 18;
+
+// How many plans a row has in a rule set.
+pub fn plan_count(rules: u8) -> u8
+    ensures { λ r. ⌜ r ≡ planCount rules ⌝ }
+{
+    if rules == REFLEXIVE {
+        return RULES_AND_LINES;
+    }
+    RULES
+}
+
+// The plan of a reflexive line for the row (x d y): 9, 10, 11, 12, 13, 14, 15, 16, 17, 18.
+fn reflexive_plan(line: u8, x: u16, d: u16, y: u16) -> Plan
+    ensures { λ plan. ⌜ plan ≡ planAt (reflexivePlans x d y) line ⌝ }
+{
+    match line {
+        0 => alone_plan(true, d, SP),
+        1 => alone_plan(d == SP, x, SP),
+        2 => alone_plan(d == SP, y, SP),
+        3 => alone_plan(d == DOM, x, SP),
+        4 => alone_plan(d == RANGE, x, SP),
+        5 => alone_plan(d == SC, x, SC),
+        6 => alone_plan(d == SC, y, SC),
+        7 => alone_plan(d == TYPE, y, SC),
+        8 => alone_plan(d == DOM, y, SC),
+        9 => alone_plan(d == RANGE, y, SC),
+        _ => off_plan(),
+    }
+}
+
+// The plan of a rule for the row (x d y): 2a, 2b, 3a, 3b, 4a, 4b, 5a, 5b, and then the reflexive lines.
 pub fn plan_of(rule: u8, x: u16, d: u16, y: u16) -> Plan
-    ensures { λ plan. ⌜ plan ≡ planAt (plansFor (triple x d y)) rule ⌝ }
+    ensures { λ plan. ⌜ plan ≡ planAt (allPlans (triple x d y)) rule ⌝ }
 {
     match rule {
         0 => straight_plan(d == SP, y, SP, x, SP),
@@ -109,6 +166,6 @@ pub fn plan_of(rule: u8, x: u16, d: u16, y: u16) -> Plan
         5 => straight_plan(true, d, RANGE, y, TYPE),
         6 => behind_plan(d, SP, DOM, x, TYPE),
         7 => behind_plan(d, SP, RANGE, y, TYPE),
-        _ => off_plan(),
+        _ => reflexive_plan(rule - RULES, x, d, y),
     }
 }

@@ -6,6 +6,8 @@ use Prim.Native.Nat.{ℕ, _<_}
 use native.Mathlib.Omega.{arith}
 use lib.Dec.{eqb, ltb}
 use borrow.Author.Tests.{eqb-true, eq-eqb, ltb-true}
+use Rattle.ground.specs.Lists.{All}
+use Rattle.ruleset.specs.RuleSet.{reflexiveSet}
 use Rattle.term.specs.Term.{isLegalTerm, isName}
 use Rattle.annotation.specs.Algebra.{Algebra, AtMost, Laws}
 use Rattle.annotation.specs.Kinds.{isLegal}
@@ -13,11 +15,13 @@ use Rattle.table.specs.Rows.{Triple, Row, key, isTriple, valueAt}
 use Rattle.table.specs.Sound.{LegalRow, Over, Ascending, AllLegal, SoundRows}
 use Rattle.table.proofs.Values.{tripleOf, triple-tells, value-none, value-there}
 use Rattle.rhodf.specs.Graph.{Graph, graphOf, Valued, meetAll}
-use Rattle.rhodf.specs.Rules.{Drawn, Rule}
+use Rattle.rhodf.specs.Rules.{Drawn, Rule, Reflexive, rulesWith, rulesOf}
 use Rattle.rhodf.specs.Closure.{Closed}
 use Rattle.rhodf.proofs.Drawing.{closed-where-held}
-use Rattle.rhodf.proofs.Deciding.{Agree, OfTwo, OfThree, ObeyedByTwo, ObeyedByThree}
+use Rattle.rhodf.proofs.Deciding.{Agree, OfOne, OfTwo, OfThree, ObeyedByOne, ObeyedByTwo, ObeyedByThree}
 use Rattle.rhodf.proofs.RulesDecided.{rule-2a, rule-2b, rule-3a, rule-3b, rule-4a, rule-4b, rule-5a, rule-5b, closed-by-rules}
+use Rattle.rhodf.proofs.Together.{closed-together}
+use Rattle.rhodf.proofs.SetsDecided.{reflexiveLines, closed-by-lines}
 
 -- several tests at once
 abbrev pub allOf : List Bool → Bool
@@ -71,12 +75,18 @@ module _ (K : Algebra) (rows : List Row) where
   obeyed : (es : List (ℕ × ℕ)) (ps : List Triple) (t : Triple) → isObeyed K G es ps t ≡ true → Agree es → Drawn t → AtMost K (meetAll K G ps) (G t)
   obeyed es ps t e fit named = eqb-true (K .join (meetAll K G ps) (G t)) (G t) (rw (agree-equal es fit, named, isObeyed) at e)
 
+  abbrev obeysOne : OfOne → Bool
+  obeysOne rule = everywhere (λ x. isObeyed K G (rule .where-equal x) (x ∷ []) (rule .gives x)) rows
+
   abbrev obeysTwo : OfTwo → Bool
   obeysTwo rule = everywhere (λ x. everywhere (λ y. isObeyed K G (rule .where-equal x y) (x ∷ y ∷ []) (rule .gives x y)) rows) rows
 
   abbrev obeysThree : OfThree → Bool
   obeysThree rule =
       everywhere (λ x. everywhere (λ y. everywhere (λ z. isObeyed K G (rule .where-equal x y z) (x ∷ y ∷ z ∷ []) (rule .gives x y z)) rows) rows) rows
+
+  one-obeyed : (rule : OfOne) → obeysOne rule ≡ true → ObeyedByOne K G rule
+  one-obeyed rule e x hx = obeyed (rule .where-equal x) (x ∷ []) (rule .gives x) (holds-everywhere _ rows e x hx)
 
   two-obeyed : (rule : OfTwo) → obeysTwo rule ≡ true → ObeyedByTwo K G rule
   two-obeyed rule e x hx y hy =
@@ -93,12 +103,8 @@ module _ (K : Algebra) (rows : List Row) where
       obeysTwo rule-2a ∷ obeysTwo rule-2b ∷ obeysTwo rule-3a ∷ obeysTwo rule-3b ∷ obeysTwo rule-4a ∷ obeysTwo rule-4b
       ∷ obeysThree rule-5a ∷ obeysThree rule-5b ∷ []
 
-  unfoldable pub isClosed : Bool
-  isClosed = allOf rulesObeyed
-
-  pub closed-holds : Laws K → Valued K G → isClosed ≡ true → Closed K Rule G
-  unfolding isClosed
-  closed-holds L v e =
+  rules-closed : Laws K → Valued K G → allOf rulesObeyed ≡ true → Closed K Rule G
+  rules-closed L v e =
       let h = all-true rulesObeyed e in
       closed-where-held K L Rule G v
       (closed-by-rules K G
@@ -110,6 +116,37 @@ module _ (K : Algebra) (rows : List Row) where
       (two-obeyed rule-4b (h .1 .1 .1 .1 .1 .0))
       (three-obeyed rule-5a (h .1 .1 .1 .1 .1 .1 .0))
       (three-obeyed rule-5b (h .1 .1 .1 .1 .1 .1 .1 .0)))
+
+  abbrev linesObeyed : List OfOne → Bool
+  linesObeyed [] = true
+  linesObeyed (line ∷ lines) = allOf (obeysOne line ∷ linesObeyed lines ∷ [])
+
+  lines-obeyed : (lines : List OfOne) → linesObeyed lines ≡ true → All (ObeyedByOne K G) lines
+  lines-obeyed [] e = tt
+  lines-obeyed (line ∷ lines) e =
+      let h = all-true (obeysOne line ∷ linesObeyed lines ∷ []) e in
+      (one-obeyed line (h .0), lines-obeyed lines (h .1 .0))
+
+  lines-closed : Laws K → Valued K G → linesObeyed reflexiveLines ≡ true → Closed K Reflexive G
+  lines-closed L v e = closed-where-held K L Reflexive G v (closed-by-lines K G (lines-obeyed reflexiveLines e))
+
+  -- under the rules of a set
+  abbrev isClosedWith : Bool → Bool
+  isClosedWith true = allOf (allOf rulesObeyed ∷ linesObeyed reflexiveLines ∷ [])
+  isClosedWith false = allOf rulesObeyed
+
+  closed-with : (b : Bool) → Laws K → Valued K G → isClosedWith b ≡ true → Closed K (rulesWith b) G
+  closed-with true L v e =
+      let h = all-true (allOf rulesObeyed ∷ linesObeyed reflexiveLines ∷ []) e in
+      closed-together (rules-closed L v (h .0)) (lines-closed L v (h .1 .0))
+  closed-with false L v e = rules-closed L v e
+
+  unfoldable pub isClosed : ℕ → Bool
+  isClosed rules = isClosedWith (eqb rules reflexiveSet)
+
+  pub closed-holds : (rules : ℕ) → Laws K → Valued K G → isClosed rules ≡ true → Closed K (rulesOf rules) G
+  unfolding isClosed
+  closed-holds rules = closed-with (eqb rules reflexiveSet)
 
 -- the same of sound rows
 abbrev isOver : ℕ → List Row → Bool

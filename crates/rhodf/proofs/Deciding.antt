@@ -1,5 +1,5 @@
--- A table is closed, or has a conclusion that is not at most its value: found by trying a rule at every two, or every three, of its rows.
--- Assumes nothing.
+-- A table is closed, or has a conclusion that is not at most its value: found by trying a rule at every one, every two, or every three
+-- of its rows. Assumes nothing.
 use mathlib.Core.Path.{_≡_, refl}
 use mathlib.Core.Bool.{Bool, true, false, Bool-discrete}
 use mathlib.Core.List.{List, [], _∷_}
@@ -52,7 +52,11 @@ agrees (e ∷ es) = Dec·and (ℕ-discrete (e .0) (e .1)) (agrees es)
 named? : (t : Triple) → Dec (Drawn t)
 named? t = Bool-discrete _ _
 
--- a rule of two, or of three, premises: which terms are to be equal, and the conclusion
+-- a rule of one, of two, or of three premises: which terms are to be equal, and the conclusion
+pub record OfOne : Type 0 where
+  pub where-equal : Triple → List (ℕ × ℕ)
+  pub gives : Triple → Triple
+
 pub record OfTwo : Type 0 where
   pub where-equal : Triple → Triple → List (ℕ × ℕ)
   pub gives : Triple → Triple → Triple
@@ -64,6 +68,9 @@ pub record OfThree : Type 0 where
 -- where the terms are equal, the conclusion t of the premises ps is at most its value; so at all premises that hold
 abbrev Obeyed : Algebra → Graph → List (ℕ × ℕ) → List Triple → Triple → Type 0
 Obeyed K G es ps t = Agree es → Drawn t → AtMost K (meetAll K G ps) (G t)
+
+abbrev pub ObeyedByOne : Algebra → Graph → OfOne → Type 0
+ObeyedByOne K G rule = (x : Triple) → 0 < G x → Obeyed K G (rule .where-equal x) (x ∷ []) (rule .gives x)
 
 abbrev pub ObeyedByTwo : Algebra → Graph → OfTwo → Type 0
 ObeyedByTwo K G rule = (x : Triple) → 0 < G x → (y : Triple) → 0 < G y → Obeyed K G (rule .where-equal x y) (x ∷ y ∷ []) (rule .gives x y)
@@ -86,6 +93,9 @@ module _ (K : Algebra) (R : Rules) (rows : List Row) where
       go (yes f) (yes n) (yes a) = inl (λ fit named. a)
       go (yes f) (yes n) (no a) = inr (record { premises = ps; conclusion = t; follows = rule f; named = n; above = a })
 
+  pub obeyed-by-one : (rule : OfOne) → ((x : Triple) → Agree (rule .where-equal x) → R (x ∷ []) (rule .gives x)) → ObeyedByOne K G rule ⊎ ToDraw K R G
+  obeyed-by-one rule is = every (λ x. obeyed-at (rule .where-equal x) (x ∷ []) (rule .gives x) (is x)) rows
+
   pub obeyed-by-two : (rule : OfTwo) → ((x y : Triple) → Agree (rule .where-equal x y) → R (x ∷ y ∷ []) (rule .gives x y))
       → ObeyedByTwo K G rule ⊎ ToDraw K R G
   obeyed-by-two rule is = every (λ x. every (λ y. obeyed-at (rule .where-equal x y) (x ∷ y ∷ []) (rule .gives x y) (is x y)) rows) rows
@@ -94,3 +104,8 @@ module _ (K : Algebra) (R : Rules) (rows : List Row) where
       → ObeyedByThree K G rule ⊎ ToDraw K R G
   obeyed-by-three rule is =
       every (λ x. every (λ y. every (λ z. obeyed-at (rule .where-equal x y z) (x ∷ y ∷ z ∷ []) (rule .gives x y z) (is x y z)) rows) rows) rows
+
+-- obeyed so far, or a conclusion to draw
+pub _>>=_ : {A B U : Type 0} → A ⊎ U → (A → B ⊎ U) → B ⊎ U
+_>>=_ (inl a) f = f a
+_>>=_ (inr u) f = inr u

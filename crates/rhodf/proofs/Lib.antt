@@ -9,13 +9,15 @@ pub mod ClosedStays
 pub mod Larger
 pub mod NoMoreRows
 pub mod Deciding
+pub mod Together
 pub mod ClosureInduction
 pub mod ExistsFor
 pub mod YearByYear
 pub mod Readings
 pub mod Years
--- What is shown for the rules of rho-df.
+-- What is shown for the rules of rho-df, and of each rule set.
 pub mod RulesDecided
+pub mod SetsDecided
 pub mod Exists
 -- The bench examples, by tests that compute.
 pub mod Checking

@@ -2,7 +2,7 @@
 -- Assumes nothing.
 use mathlib.Core.Path.{refl}
 use mathlib.Core.List.{List, [], _∷_}
-use mathlib.Core.Logic.{_⊎_, inl, inr}
+use mathlib.Core.Logic.{inl}
 use Rattle.term.specs.Term.{sp, sc, type, dom, range}
 use Rattle.annotation.specs.Algebra.{Algebra, AtMost}
 use Rattle.table.specs.Rows.{Triple, triple}
@@ -10,7 +10,7 @@ use Rattle.rhodf.specs.Graph.{Graph, graphOf, meetAll}
 use Rattle.rhodf.specs.Rules.{Drawn, Rule, r2a, r2b, r3a, r3b, r4a, r4b, r5a, r5b}
 use Rattle.rhodf.proofs.Graphs.{AllHeld}
 use Rattle.rhodf.proofs.Drawing.{KeepLegal, closed-where-held}
-use Rattle.rhodf.proofs.Deciding.{Decided, Agree, OfTwo, OfThree, ObeyedByTwo, ObeyedByThree, obeyed-by-two, obeyed-by-three}
+use Rattle.rhodf.proofs.Deciding.{Decided, Agree, OfTwo, OfThree, ObeyedByTwo, ObeyedByThree, obeyed-by-two, obeyed-by-three, _>>=_}
 
 -- each rule, by the terms of its premises that are to be equal
 abbrev pub rule-2a : OfTwo
@@ -74,11 +74,6 @@ module _ (K : Algebra) (G : Graph)
   closed-by-rules ps t (r4b d b x y) h named = o4b (triple d range b) (h .0) (triple x d y) (h .1 .0) (refl, (refl, tt)) named
   closed-by-rules ps t (r5a a b d x y) h named = o5a (triple a dom b) (h .0) (triple d sp a) (h .1 .0) (triple x d y) (h .1 .1 .0) (refl, (refl, (refl, (refl, tt)))) named
   closed-by-rules ps t (r5b a b d x y) h named = o5b (triple a range b) (h .0) (triple d sp a) (h .1 .0) (triple x d y) (h .1 .1 .0) (refl, (refl, (refl, (refl, tt)))) named
-
--- obeyed so far, or a conclusion to draw
-_>>=_ : {A B U : Type 0} → A ⊎ U → (A → B ⊎ U) → B ⊎ U
-_>>=_ (inl a) f = f a
-_>>=_ (inr u) f = inr u
 
 pub rules-decided : Decided Rule
 rules-decided K L rows v = do

@@ -11,6 +11,7 @@ use Rattle.ground.specs.Bits.{has}
 use Rattle.ground.specs.Lists.{All, Every}
 use Rattle.ground.proofs.Masks.{has-none, has-high}
 use Rattle.term.specs.Term.{sc, type}
+use Rattle.ruleset.specs.RuleSet.{basicSet}
 use Rattle.annotation.proofs.SheetExamplesHold.{sheet-examples-hold}
 use Rattle.table.specs.Rows.{Triple, triple, Row, row, valueAt}
 use Rattle.table.specs.Sound.{SoundRows}
@@ -69,11 +70,11 @@ module _ (k k′ : ℕ) (rows rows′ : List Row) where
 
 lamps-close : ClosureOf 1 Rule lamps lampsClosed
 unfolding isClosedBy
-lamps-close = closure-by (by (r3b 11 12 10) ∷ []) refl refl
+lamps-close = closure-by basicSet (by (r3b 11 12 10) ∷ []) refl refl
 
 others-close : ClosureOf 1 Rule others othersClosed
 unfolding isClosedBy
-others-close = closure-by (by (r3b 11 12 10) ∷ []) refl refl
+others-close = closure-by basicSet (by (r3b 11 12 10) ∷ []) refl refl
 
 lamps-sound : SoundRows 1 lamps
 unfolding isOrdered
@@ -184,7 +185,7 @@ together-legal = (sheet-examples-hold .alone .0 .legal, (sheet-examples-hold .al
 
 together-close : ClosureOf 5 Rule onTwoSheets togetherClosed
 unfolding isDrawnBy
-together-close = closure-with (by (r3b 11 12 10) ∷ []) together-legal refl refl
+together-close = closure-with basicSet (by (r3b 11 12 10) ∷ []) together-legal refl refl
 
 together-sound : SoundRows 5 onTwoSheets
 unfolding isOrdered

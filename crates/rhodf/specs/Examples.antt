@@ -1,11 +1,13 @@
--- The document's bench examples P1 to P10, each a statement on a table and its closure, two of our own, two of measured values and two of sheets.
+-- The document's bench examples P1 to P10, each a statement on a table and its closure, two of our own, two of measured values,
+-- two of sheets and four of rule set 2.
 use mathlib.Core.List.{List, [], _∷_}
 use Prim.Native.Nat.{ℕ}
+use Rattle.ruleset.specs.RuleSet.{reflexiveSet}
 use Rattle.term.specs.Term.{sp, sc, type, dom, range, milliamps}
 use Rattle.annotation.specs.Kinds.{algebra}
 use Rattle.table.specs.Rows.{row}
 use Rattle.table.specs.Examples.{P2}
-use Rattle.rhodf.specs.Rules.{Rule}
+use Rattle.rhodf.specs.Rules.{Rule, rulesOf}
 use Rattle.rhodf.specs.Closure.{ClosureOf}
 
 -- an example that names no kind, in every kind
@@ -126,6 +128,40 @@ OrAThird =
     (row 10 type 11 0xAAAAAAAAAAAAAAAA ∷ row 10 type 12 0xF0F0F0F0F0F0F0F0 ∷ row 11 sc 12 0xCCCCCCCCCCCCCCCC ∷ [])
     (row 10 type 11 0xAAAAAAAAAAAAAAAA ∷ row 10 type 12 0xF8F8F8F8F8F8F8F8 ∷ row 11 sc 12 0xCCCCCCCCCCCCCCCC ∷ [])
 
+-- C-23, example 1: P1 in rule set 2, eight rows
+abbrev pub P1Reflexive : Type 0
+P1Reflexive =
+    ClosureOf 1 (rulesOf reflexiveSet)
+    (row 10 type 11 120 ∷ row 11 sc 12 2016 ∷ [])
+    (row sp sp sp 2040 ∷ row sc sp sc 2040 ∷ row type sp type 120
+    ∷ row 10 type 11 120 ∷ row 10 type 12 96 ∷ row 11 sc 11 2040 ∷ row 11 sc 12 2016 ∷ row 12 sc 12 2016 ∷ [])
+
+-- C-23, example 2: "kind 3, (16384 sp 16385):600: new (0 sp 0), (16384 sp 16384), (16385 sp 16385), all 600"; the terms are blanks
+abbrev pub BlanksReflexive : Type 0
+BlanksReflexive =
+    ClosureOf 3 (rulesOf reflexiveSet)
+    (row 16384 sp 16385 600 ∷ [])
+    (row sp sp sp 600 ∷ row 16384 sp 16384 600 ∷ row 16384 sp 16385 600 ∷ row 16385 sp 16385 600 ∷ [])
+
+-- C-23, example 3: "P9: (5 sc 5) and (6 sc 6) are 600 now (400 in set 1), with (0 sp 0), (1 sp 1) 600"
+abbrev pub P9Reflexive : Type 0
+P9Reflexive =
+    ClosureOf 3 (rulesOf reflexiveSet)
+    (row 5 sc 6 600 ∷ row 6 sc 5 400 ∷ [])
+    (row sp sp sp 600 ∷ row sc sp sc 600 ∷ row 5 sc 5 600 ∷ row 5 sc 6 600 ∷ row 6 sc 5 400 ∷ row 6 sc 6 600 ∷ [])
+
+-- C-23, example 4: "(20 dom 12):700: six rows, all 700"; no kind is named, so both kinds of degrees
+abbrev pub DomReflexiveIn : ℕ → Type 0
+DomReflexiveIn kind =
+    ClosureOf kind (rulesOf reflexiveSet)
+    (row 20 dom 12 700 ∷ [])
+    (row sp sp sp 700 ∷ row sc sp sc 700 ∷ row dom sp dom 700 ∷ row 12 sc 12 700 ∷ row 20 sp 20 700 ∷ row 20 dom 12 700 ∷ [])
+
+abbrev pub DomReflexive : Type 0
+DomReflexive = DomReflexiveIn 3 × DomReflexiveIn 4
+
 -- P2 is the table's own
 abbrev pub examples : List (Type 0)
-examples = P1 ∷ P2 ∷ P3 ∷ P4 ∷ P5 ∷ P6 ∷ P7 ∷ P8 ∷ P9 ∷ P10 ∷ RangeBeyondBlank ∷ ThreeClasses ∷ RangeOfValue ∷ ThroughValue ∷ TwoSheets ∷ OrAThird ∷ []
+examples =
+    P1 ∷ P2 ∷ P3 ∷ P4 ∷ P5 ∷ P6 ∷ P7 ∷ P8 ∷ P9 ∷ P10 ∷ RangeBeyondBlank ∷ ThreeClasses ∷ RangeOfValue ∷ ThroughValue ∷ TwoSheets ∷ OrAThird
+    ∷ P1Reflexive ∷ BlanksReflexive ∷ P9Reflexive ∷ DomReflexive ∷ []

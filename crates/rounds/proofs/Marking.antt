@@ -14,21 +14,24 @@ use Rattle.termset.specs.Termset.{holds, With}
 use Rattle.termset.proofs.Holding.{among-self, among-trans}
 use Rattle.rounds.specs.Due.{Still, Marked, Leads, NextDue, LastDue, Sought, Spread}
 
-pub marked : {changed other : Bool} {x y : ℕ} {due due₁ due₂ rose rose₁ rose₂ : List ℕ}
-    → With changed x due due₁ → With other y due₁ due₂ → With changed x rose rose₁ → With other y rose₁ rose₂ → Marked changed other x y due due₂ rose rose₂
-marked {changed} {other} {x} {y} a b c d = record {
-  due-more = among-trans (a .more) (b .more);
-  rose-more = among-trans (c .more) (d .more);
-  self = λ e. d .more .also x (c .there e);
-  beside = λ _ e. d .there e;
+pub marked : {changed other third : Bool} {x y d : ℕ} {due due₁ due₂ due₃ rose rose₁ rose₂ rose₃ : List ℕ}
+    → With changed x due due₁ → With other y due₁ due₂ → With third d due₂ due₃
+    → With changed x rose rose₁ → With other y rose₁ rose₂ → With third d rose₂ rose₃ → Marked changed other third x y d due due₃ rose rose₃
+marked {changed} {other} {third} {x} {y} {d} dx dy dd rx ry rd = record {
+  due-more = among-trans (among-trans (dx .more) (dy .more)) (dd .more);
+  rose-more = among-trans (among-trans (rx .more) (ry .more)) (rd .more);
+  self = λ e. rd .more .also x (ry .more .also x (rx .there e));
+  beside = λ _ e. rd .more .also y (ry .there e);
+  above = λ _ e. rd .there e;
 }
 
-pub unmarked : {changed other : Bool} {x y : ℕ} (due rose : List ℕ) → changed ≡ false → Marked changed other x y due due rose rose
+pub unmarked : {changed other third : Bool} {x y d : ℕ} (due rose : List ℕ) → changed ≡ false → Marked changed other third x y d due due rose rose
 unmarked due rose f = record {
   due-more = among-self due;
   rose-more = among-self rose;
   self = λ e. absurd (true≢false (sym e ∙ f));
   beside = λ e _. absurd (true≢false (sym e ∙ f));
+  above = λ e _. absurd (true≢false (sym e ∙ f));
 }
 
 -- row by row

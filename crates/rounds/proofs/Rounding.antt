@@ -33,9 +33,9 @@ use Rattle.walks.specs.Walks.{Known, Planned, Walked}
 use Rattle.walks.proofs.Rising.{some-either, risen-none, risen-then, drew-none, drew-so, drew-among, Passed, turn}
 use Rattle.walks.proofs.Neighbours.{row-value, row-below}
 use Rattle.walks.proofs.Walking.{planned-later}
-use Rattle.rounds.specs.Due.{Still, Quiet, OfRow, Sets, Strayed, Marked, RowsOfThree, ToCome, NotBefore, First, Onward, Spread}
+use Rattle.rounds.specs.Due.{Still, Quiet, OfRow, Sets, RoseAt, Marked, RowsOfThree, ToCome, NotBefore, First, Onward, Spread}
 use Rattle.rounds.specs.Rounds.{tripleAt, RowObeyed, RowOfTable, RowDrawn, RowAsked, RoundDue, RoundDrawn, Saturated}
-use Rattle.rounds.proofs.Staying.{Staying}
+use Rattle.rounds.proofs.Staying.{OfTriple, Staying}
 use Rattle.rounds.proofs.Settling.{Moved, still-before, Settled, settled-on}
 
 -- plan k of row i of l is obeyed in another table
@@ -105,7 +105,7 @@ spread-quiet m {n} {rose} {rose′} s t still = record { still = still-before (s
 module _ {R : Rules} {plans : Triple → List Plan} (driven : Driven R plans) {kind : ℕ} where
   -- every plan of a row, one after another
   module _ {l : Lanes} {n i : ℕ} (c : RowOfTable kind l n i) where
-    pub row-start : Drew R kind (OfRow (tripleAt l i) false) (Passed (PlanPassed plans kind l i) 0 0 l n) l n l false false n
+    pub row-start : Drew R kind (OfRow (tripleAt l i) false false) (Passed (PlanPassed plans kind l i) 0 0 l n) l n l false false n
     row-start = drew-none (c .sound) (record { reached = omega arith; passed = λ k h. absurd (omega arith) })
 
     row-planned : (k : ℕ) → k < length (plans (tripleAt l i)) → Planned R kind Known (planAt (plans (tripleAt l i)) k) (rowAt l i .a) l n
@@ -129,46 +129,47 @@ module _ {R : Rules} {plans : Triple → List Plan} (driven : Driven R plans) {k
     row-pursued s k q e = rw e (planned-later (row-planned k q) s)
 
     -- a plan more
-    module _ (staying : Staying plans) {m : Lanes} {c₁ other : Bool} {n₁ k : ℕ} {m₂ : Lanes} {f₂ c₂ other₂ c₃ : Bool} {n₂ : ℕ} where
-      pub row-turn : Drew R kind (OfRow (tripleAt l i) other) (Passed (PlanPassed plans kind l i) 0 k l n) l n m false c₁ n₁ → k < length (plans (tripleAt l i))
-          → Walked R kind (planAt (plans (tripleAt l i)) k) (rowAt l i .a) m n₁ m₂ f₂ c₂ n₂
-          → Strayed other c₂ (planAt (plans (tripleAt l i)) k .s) (rowAt l i .s) other₂ → Either c₁ c₂ c₃
-          → Drew R kind (OfRow (tripleAt l i) other₂) (Passed (PlanPassed plans kind l i) 0 (k + 1) l n) l n m₂ f₂ c₃ n₂
-      row-turn s q w t e = turn (drew-among s (λ _. wider)) (drew-among w own) e
+    module _ (staying : Staying plans) {m : Lanes} {c₁ other third : Bool} {n₁ k : ℕ} {m₂ : Lanes} {f₂ c₂ other₂ third₂ c₃ : Bool} {n₂ : ℕ} where
+      pub row-turn : Drew R kind (OfRow (tripleAt l i) other third) (Passed (PlanPassed plans kind l i) 0 k l n) l n m false c₁ n₁ → k < length (plans (tripleAt l i))
+          → {plan : Plan} → plan ≡ planAt (plans (tripleAt l i)) k
+          → Walked R kind plan (rowAt l i .a) m n₁ m₂ f₂ c₂ n₂
+          → RoseAt other c₂ (plan .s) (rowAt l i .o) other₂ → RoseAt third c₂ (plan .s) (rowAt l i .p) third₂ → Either c₁ c₂ c₃
+          → Drew R kind (OfRow (tripleAt l i) other₂ third₂) (Passed (PlanPassed plans kind l i) 0 (k + 1) l n) l n m₂ f₂ c₃ n₂
+      row-turn s q {plan} ep w o t e =
+          turn (drew-among s (λ _. wider)) (subst (λ (p : Plan). Drew R kind (OfRow (tripleAt l i) other₂ third₂) (Obeyed (algebra kind) (graphOf (rowsOf m n₁)) p (rowAt l i .a)) m n₁ m₂ f₂ c₂ n₂) ep (drew-among w own)) e
         where
-          wider : (x : ℕ) → OfRow (tripleAt l i) other x → OfRow (tripleAt l i) other₂ x
+          wider : (x : ℕ) → OfRow (tripleAt l i) other third x → OfRow (tripleAt l i) other₂ third₂ x
           wider x (inl e) = inl e
-          wider x (inr h) = inr (t .keeps (h .0), h .1)
+          wider x (inr (inl h)) = inr (inl (o .keeps (h .0), h .1))
+          wider x (inr (inr h)) = inr (inr (t .keeps (h .0), h .1))
 
-          strays : (x : ℕ) → x ≡ planAt (plans (tripleAt l i)) k .s
-              → (planAt (plans (tripleAt l i)) k .s ≡ rowAt l i .s) ⊎ (planAt (plans (tripleAt l i)) k .s ≡ rowAt l i .o)
-              → other₂ ≡ true → OfRow (tripleAt l i) other₂ x
-          strays x e (inl p) o = inl (e ∙ p)
-          strays x e (inr p) o = inr (o, e ∙ p)
+          by : c₂ ≡ true → (x : ℕ) → x ≡ plan .s → OfTriple (tripleAt l i) plan → OfRow (tripleAt l i) other₂ third₂ x
+          by h x e (inl p) = inl (e ∙ p)
+          by h x e (inr (inl p)) = inr (inl (o .tells h p, e ∙ p))
+          by h x e (inr (inr p)) = inr (inr (t .tells h p, e ∙ p))
 
-          own : c₂ ≡ true → (x : ℕ) → x ≡ planAt (plans (tripleAt l i)) k .s → OfRow (tripleAt l i) other₂ x
-          own h x e = ⊎-elim (λ p. inl (e ∙ p))
-              (strays x e (all-at (λ plan. (plan .s ≡ rowAt l i .s) ⊎ (plan .s ≡ rowAt l i .o)) offPlan (plans (tripleAt l i)) (staying .gives (tripleAt l i)) k q))
-              (t .tells h)
+          own : c₂ ≡ true → (x : ℕ) → x ≡ plan .s → OfRow (tripleAt l i) other₂ third₂ x
+          own h x e = by h x e (rw ep (all-at (OfTriple (tripleAt l i)) offPlan (plans (tripleAt l i)) (staying .gives (tripleAt l i)) k q))
 
-    pub row-end : {m : Lanes} {changed other : Bool} {n₁ k : ℕ} → Drew R kind (OfRow (tripleAt l i) other) (Passed (PlanPassed plans kind l i) 0 k l n) l n m false changed n₁
-        → length (plans (tripleAt l i)) ≤ k → RowDrawn R plans kind l n i m false changed other n₁
+    pub row-end : {m : Lanes} {changed other third : Bool} {n₁ k : ℕ} → Drew R kind (OfRow (tripleAt l i) other third) (Passed (PlanPassed plans kind l i) 0 k l n) l n m false changed n₁
+        → length (plans (tripleAt l i)) ≤ k → RowDrawn R plans kind l n i m false changed other third n₁
     row-end s h = drew-so s (λ _ _ p. all-from (λ plan. Obeyed (algebra kind) (graphOf (rowsOf l n)) plan (rowAt l i .a)) offPlan (plans (tripleAt l i))
         (λ j q. p .passed j (omega arith)))
 
     -- what rose is put into the sets
-    pub row-asked : {m : Lanes} {full changed other : Bool} {n′ : ℕ} {due due′ rose rose′ : List ℕ} → RowDrawn R plans kind l n i m full changed other n′
-        → Marked changed other (rowAt l i .s) (rowAt l i .o) due due′ rose rose′ → RowAsked R plans kind l n i m full changed n′ due due′ rose rose′
-    row-asked {m} {full} {changed} {other} {n′} {due} {due′} {rose} {rose′} d k = record {
+    pub row-asked : {m : Lanes} {full changed other third : Bool} {n′ : ℕ} {due due′ rose rose′ : List ℕ} → RowDrawn R plans kind l n i m full changed other third n′
+        → Marked changed other third (rowAt l i .s) (rowAt l i .o) (rowAt l i .p) due due′ rose rose′ → RowAsked R plans kind l n i m full changed n′ due due′ rose rose′
+    row-asked {m} {full} {changed} {other} {third} {n′} {due} {due′} {rose} {rose′} d k = record {
       drew = drew-among d rises;
       due-more = k .due-more;
       rose-more = k .rose-more;
       again = k .self;
     }
       where
-        rises : changed ≡ true → (x : ℕ) → OfRow (tripleAt l i) other x → holds rose′ x ≡ true
+        rises : changed ≡ true → (x : ℕ) → OfRow (tripleAt l i) other third x → holds rose′ x ≡ true
         rises h x (inl e) = rw e (k .self h)
-        rises h x (inr w) = rw (w .1) (k .beside h (w .0))
+        rises h x (inr (inl w)) = rw (w .1) (k .beside h (w .0))
+        rises h x (inr (inr w)) = rw (w .1) (k .above h (w .0))
 
   -- every row that is due, one after another: at first all are to come
   pub round-start : {l : Lanes} {n : ℕ} {due rose : List ℕ} {To : ℕ → Type 0} → RoundDue plans kind l n due → Sets due rose → ((j : ℕ) → j < n → To j)

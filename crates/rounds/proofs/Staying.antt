@@ -1,13 +1,16 @@
--- A row that obeys its plans goes on obeying them while nothing that it can meet rises; and its conclusions have its subject or its object. Assumes nothing.
+-- A row that obeys its plans goes on obeying them while nothing that it can meet rises; and its conclusions have its
+-- subject, its object or its predicate as their subject. Assumes nothing.
 use mathlib.Core.Path.{_≡_, refl}
 use mathlib.Core.Bool.{Bool, true, false}
-use mathlib.Core.List.{List}
+use mathlib.Core.List.{List, _++_}
 use mathlib.Core.Logic.{_⊎_, inl, inr}
 use Prim.Native.Nat.{ℕ, _<_}
 use native.Mathlib.Omega.{arith}
 use lib.Dec.{eqb}
 use borrow.Author.Tests.{eqb-true}
 use Rattle.ground.specs.Lists.{All}
+use Rattle.ground.proofs.Each.{all-append}
+use Rattle.ruleset.specs.RuleSet.{reflexiveSet}
 use Rattle.term.specs.Term.{sp, sc, type, dom, range}
 use Rattle.annotation.specs.Algebra.{Algebra, Laws}
 use Rattle.annotation.proofs.Order.{at-most-trans}
@@ -15,8 +18,9 @@ use Rattle.table.specs.Rows.{Triple, triple}
 use Rattle.table.proofs.Ordering.{Tri, less, same, more, tri}
 use Rattle.rhodf.specs.Graph.{Graph, Valued, Below}
 use Rattle.plans.specs.declared.Plan.{Plan}
-use Rattle.plans.specs.Plans.{shapeOff, shapeBehind, straightIf, renamingPlan, behindPlan, plansOf, plansFor, Met, Obeyed}
+use Rattle.plans.specs.Plans.{shapeOff, shapeBehind, straightIf, renamingPlan, behindPlan, aloneIf, plansOf, reflexivePlans, plansWith, plansFor, Met, Obeyed}
 use Rattle.plans.proofs.Meeting.{met-bottom}
+use Rattle.plans.proofs.Driven.{all-front, all-behind}
 
 -- a row of t meets no row of these subjects
 pub record Apart (S : ℕ → Type 0) (G : Graph) (t : Triple) : Type 0 where
@@ -24,24 +28,34 @@ pub record Apart (S : ℕ → Type 0) (G : Graph) (t : Triple) : Type 0 where
   pub by-object : t .p < dom → S (t .o) → ⊥
   pub behind : (z : ℕ) → 0 < G (triple (t .p) sp z) → S z → ⊥
 
+-- what a plan gives has such a subject
+abbrev pub OfTriple : Triple → Plan → Type 0
+OfTriple t plan = (plan .s ≡ t .s) ⊎ ((plan .s ≡ t .o) ⊎ (plan .s ≡ t .p))
+
 -- what rounds need to know of plans to ask a row only when it is due
 pub record Staying (plans : Triple → List Plan) : Type 1 where
   -- from G to H above it nothing but triples of the subjects S rose
   pub stays : (K : Algebra) → Laws K → (S : ℕ → Type 0) → (G H : Graph) → Valued K H → Below K G H → ((u : Triple) → (S (u .s) → ⊥) → H u ≡ G u)
       → (t : Triple) → Apart S H t → (a : ℕ) → K .Value a
       → All (λ plan. Obeyed K G plan a) (plans t) → All (λ plan. Obeyed K H plan a) (plans t)
-  pub gives : (t : Triple) → All (λ plan. (plan .s ≡ t .s) ⊎ (plan .s ≡ t .o)) (plans t)
+  pub gives : (t : Triple) → All (OfTriple t) (plans t)
 
 module _ (K : Algebra) (L : Laws K) (S : ℕ → Type 0) (G H : Graph) (v : Valued K H) (up : Below K G H) (kept : (u : Triple) → (S (u .s) → ⊥) → H u ≡ G u)
     (a : ℕ) (va : K .Value a) where
   off-obeyed : (plan : Plan) → plan .shape ≡ shapeOff → Obeyed K H plan a
   off-obeyed plan e = record {
     met = λ z. record { straight = λ f. absurd (omega (arith, e, f)); renaming = λ f. absurd (omega (arith, e, f)); behind = λ f. absurd (omega (arith, e, f)) };
+    alone = λ f. absurd (omega (arith, e, f));
   }
 
   plan-stays : (plan : Plan) → (S (plan .q) → ⊥) → (plan .shape ≡ shapeBehind → (z : ℕ) → 0 < H (triple (plan .q) (plan .r) z) → S z → ⊥)
       → Obeyed K G plan a → Obeyed K H plan a
-  plan-stays plan apart deep o = record { met = λ z. go z (tri 0 (H (triple (plan .q) (plan .r) z))) }
+  plan-stays plan apart deep o = record {
+    met = λ z. go z (tri 0 (H (triple (plan .q) (plan .r) z)));
+    alone = λ f named.
+        let t = triple (plan .s) (plan .p) (plan .o) in
+        at-most-trans K L a (G t) (H t) (o .alone f named) (up .below t);
+  }
     where
       go : (z : ℕ) → Tri 0 (H (triple (plan .q) (plan .r) z)) → Met K H plan z (K .meet a (H (triple (plan .q) (plan .r) z)))
       go z (less h) =
@@ -65,6 +79,42 @@ module _ (K : Algebra) (L : Laws K) (S : ℕ → Type 0) (G H : Graph) (v : Valu
   straight-stays : (on : Bool) (q r s p : ℕ) → (on ≡ true → S q → ⊥) → Obeyed K G (straightIf on q r s p) a → Obeyed K H (straightIf on q r s p) a
   straight-stays true q r s p apart o = plan-stays (straightIf true q r s p) (apart refl) (λ f. absurd (omega arith)) o
   straight-stays false q r s p apart o = off-obeyed (straightIf false q r s p) refl
+
+  alone-stays : (on : Bool) (s p : ℕ) → Obeyed K G (aloneIf on s p) a → Obeyed K H (aloneIf on s p) a
+  alone-stays true s p o = record {
+    met = λ z. record { straight = λ f. absurd (omega arith); renaming = λ f. absurd (omega arith); behind = λ f. absurd (omega arith) };
+    alone = λ f named. let t = triple s p s in at-most-trans K L a (G t) (H t) (o .alone f named) (up .below t);
+  }
+  alone-stays false s p o = off-obeyed (aloneIf false s p) refl
+
+  -- the ten plans of the reflexive lines
+  lines-stay : (x d y : ℕ) → All (λ plan. Obeyed K G plan a) (reflexivePlans x d y) → All (λ plan. Obeyed K H plan a) (reflexivePlans x d y)
+  unfolding reflexivePlans
+  lines-stay x d y o = (
+    alone-stays true d sp (o .0),
+    (
+      alone-stays (eqb d sp) x sp (o .1 .0),
+      (
+        alone-stays (eqb d sp) y sp (o .1 .1 .0),
+        (
+          alone-stays (eqb d dom) x sp (o .1 .1 .1 .0),
+          (
+            alone-stays (eqb d range) x sp (o .1 .1 .1 .1 .0),
+            (
+              alone-stays (eqb d sc) x sc (o .1 .1 .1 .1 .1 .0),
+              (
+                alone-stays (eqb d sc) y sc (o .1 .1 .1 .1 .1 .1 .0),
+                (
+                  alone-stays (eqb d type) y sc (o .1 .1 .1 .1 .1 .1 .1 .0),
+                  (alone-stays (eqb d dom) y sc (o .1 .1 .1 .1 .1 .1 .1 .1 .0), (alone-stays (eqb d range) y sc (o .1 .1 .1 .1 .1 .1 .1 .1 .1 .0), tt)),
+                ),
+              ),
+            ),
+          ),
+        ),
+      ),
+    ),
+  )
 
   -- the eight plans
   all-stay : (x d y : ℕ) → Apart S H (triple x d y) → All (λ plan. Obeyed K G plan a) (plansOf x d y) → All (λ plan. Obeyed K H plan a) (plansOf x d y)
@@ -95,12 +145,41 @@ module _ (K : Algebra) (L : Laws K) (S : ℕ → Type 0) (G H : Graph) (v : Valu
     ),
   )
 
-all-give : (x d y : ℕ) → All (λ plan. (plan .s ≡ x) ⊎ (plan .s ≡ y)) (plansOf x d y)
+all-give : (x d y : ℕ) → All (OfTriple (triple x d y)) (plansOf x d y)
 unfolding plansOf
-all-give x d y = (inl refl, (inl refl, (inl refl, (inl refl, (inl refl, (inr refl, (inl refl, (inr refl, tt))))))))
+all-give x d y =
+    (inl refl, (inl refl, (inl refl, (inl refl, (inl refl, (inr (inl refl), (inl refl, (inr (inl refl), tt))))))))
 
-pub rhodf-staying : Staying plansFor
+lines-give : (x d y : ℕ) → All (OfTriple (triple x d y)) (reflexivePlans x d y)
+unfolding reflexivePlans
+lines-give x d y =
+    (inr (inr refl), (inl refl, (inr (inl refl), (inl refl, (inl refl, (inl refl, (inr (inl refl), (inr (inl refl), (inr (inl refl), (inr (inl refl), tt))))))))))
+
+rhodf-staying : Staying (λ t. plansOf (t .s) (t .p) (t .o))
 rhodf-staying = record {
   stays = λ K L S G H v up kept t apart a va h. all-stay K L S G H v up kept a va (t .s) (t .p) (t .o) apart h;
   gives = λ t. all-give (t .s) (t .p) (t .o);
 }
+
+lines-staying : Staying (λ t. reflexivePlans (t .s) (t .p) (t .o))
+lines-staying = record {
+  stays = λ K L S G H v up kept t apart a va h. lines-stay K L S G H v up kept a va (t .s) (t .p) (t .o) h;
+  gives = λ t. lines-give (t .s) (t .p) (t .o);
+}
+
+-- plans one after the other
+staying-together : {plans more : Triple → List Plan} → Staying plans → Staying more → Staying (λ t. plans t ++ more t)
+staying-together {plans} {more} one other = record {
+  stays = λ K L S G H v up kept t apart a va h.
+      all-append (λ plan. Obeyed K H plan a) (plans t) (more t)
+      (one .stays K L S G H v up kept t apart a va (all-front (λ plan. Obeyed K G plan a) (plans t) (more t) h))
+      (other .stays K L S G H v up kept t apart a va (all-behind (λ plan. Obeyed K G plan a) (plans t) (more t) h));
+  gives = λ t. all-append (OfTriple t) (plans t) (more t) (one .gives t) (other .gives t);
+}
+
+staying-with : (b : Bool) → Staying (plansWith b)
+staying-with true = staying-together rhodf-staying lines-staying
+staying-with false = rhodf-staying
+
+pub set-staying : (rules : ℕ) → Staying (plansFor rules)
+set-staying rules = staying-with (eqb rules reflexiveSet)

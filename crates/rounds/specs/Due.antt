@@ -24,26 +24,27 @@ pub record Quiet (set : List ℕ) (G : Graph) (t : Triple) : Type 0 where
 pub record MeetsNone (set : List ℕ) (t : Triple) (r : Bool) : Type 0 where
   pub none : r ≡ false → Still set t
 
--- the subjects that asking a row of t may raise: its own, and its object where `other`
-abbrev pub OfRow : Triple → Bool → ℕ → Type 0
-OfRow t other x = (x ≡ t .s) ⊎ ((other ≡ true) × (x ≡ t .o))
+-- the subjects that asking a row of t may raise: its own, its object where `other`, and its predicate where `third`
+abbrev pub OfRow : Triple → Bool → Bool → ℕ → Type 0
+OfRow t other third x = (x ≡ t .s) ⊎ (((other ≡ true) × (x ≡ t .o)) ⊎ ((third ≡ true) × (x ≡ t .p)))
 
--- r keeps `other`, and says it of a plan that gave rows of a subject s that is not x
-pub record Strayed (other changed : Bool) (s x : ℕ) (r : Bool) : Type 0 where
-  pub keeps : other ≡ true → r ≡ true
-  pub tells : changed ≡ true → (s ≡ x) ⊎ (r ≡ true)
+-- r keeps what was told, and tells it of a plan that gave rows of the subject t
+pub record RoseAt (told changed : Bool) (s t : ℕ) (r : Bool) : Type 0 where
+  pub keeps : told ≡ true → r ≡ true
+  pub tells : changed ≡ true → s ≡ t → r ≡ true
 
 -- the two sets are sets
 pub record Sets (due rose : List ℕ) : Type 0 where
   pub due-long : length due ≡ words
   pub rose-long : length rose ≡ words
 
--- both sets have grown, and x and y are in `rose` where they rose
-pub record Marked (changed other : Bool) (x y : ℕ) (due due′ rose rose′ : List ℕ) : Type 0 where
+-- both sets have grown, and x, y and d are in `rose` where they rose
+pub record Marked (changed other third : Bool) (x y d : ℕ) (due due′ rose rose′ : List ℕ) : Type 0 where
   pub due-more : Among due due′
   pub rose-more : Among rose rose′
   pub self : changed ≡ true → holds rose′ x ≡ true
   pub beside : changed ≡ true → other ≡ true → holds rose′ y ≡ true
+  pub above : changed ≡ true → third ≡ true → holds rose′ d ≡ true
 
 -- whether d is sp and y in the set
 pub record Leads (set : List ℕ) (d y : ℕ) (r : Bool) : Type 0 where

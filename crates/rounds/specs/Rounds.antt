@@ -28,8 +28,8 @@ pub record RowOfTable (kind : ℕ) (l : Lanes) (n i : ℕ) : Type 0 where
   pub sound : Sound kind l n
   pub there : i < n
 
-abbrev pub RowDrawn : Rules → (Triple → List Plan) → ℕ → Lanes → ℕ → ℕ → Lanes → Bool → Bool → Bool → ℕ → Type 0
-RowDrawn R plans kind l n i m full changed other n′ = Drew R kind (OfRow (tripleAt l i) other) (RowObeyed plans kind l n i) l n m full changed n′
+abbrev pub RowDrawn : Rules → (Triple → List Plan) → ℕ → Lanes → ℕ → ℕ → Lanes → Bool → Bool → Bool → Bool → ℕ → Type 0
+RowDrawn R plans kind l n i m full changed other third n′ = Drew R kind (OfRow (tripleAt l i) other third) (RowObeyed plans kind l n i) l n m full changed n′
 
 -- a row is asked; what rose is in the set `rose`, and the row itself too where it changed anything
 pub record RowAsked (R : Rules) (plans : Triple → List Plan) (kind : ℕ) (l : Lanes) (n i : ℕ) (m : Lanes) (full changed : Bool) (n′ : ℕ)

@@ -1,4 +1,4 @@
-// Rounds: every rule at every row of a sound table that could give something new, again and again until a round changes nothing.
+// Rounds: every rule of a set at every row of a sound table that could give something new, again and again until a round changes nothing.
 // A row is asked again only if a row that it can meet has risen since. What rose is kept by subject, in two sets of terms
 // (8 KB each, on the stack): `rose` has what rose in this round, `due` what rose in the last one or so far in this.
 // From the fourth on, rounds go down and up by turns: what follows row by row comes in one round if it follows in its order.
@@ -9,12 +9,12 @@ ghost use lib.ListN.{length};
 ghost use Rattle.termset.specs.Termset.{words};
 ghost use Rattle.table.specs.Lent.{before, after, lent};
 ghost use Rattle.table.specs.Rows.{triple};
-ghost use Rattle.rhodf.specs.Rules.{Rule};
+ghost use Rattle.rhodf.specs.Rules.{rulesOf};
 ghost use Rattle.plans.specs.Plans.{plansFor};
-ghost use Rattle.rounds.specs.Due.{Sets, Strayed, MeetsNone, Marked, Leads, RowsOfThree, NextDue, LastDue, Seeking, Sought, First, Onward, Spread};
+ghost use Rattle.rounds.specs.Due.{Sets, RoseAt, MeetsNone, Marked, Leads, RowsOfThree, NextDue, LastDue, Seeking, Sought, First, Onward, Spread};
 ghost use Rattle.rounds.specs.Rounds.{RowOfTable, RowDrawn, RowAsked, RoundDue, RoundDrawn, Saturated};
 ghost use Rattle.table.specs.Sound.{Sound};
-use plans::RULES;
+use plans::plan_count;
 use plans::plan_of;
 use table::PutDone;
 use term::DOM;
@@ -24,31 +24,33 @@ use termset::put_if;
 use walks::either;
 use walks::pursue;
 
-// Whether a row of another subject than x has risen, where a plan of x's row gave rows of the subject s.
-fn strayed(other: bool, changed: bool, s: u16, x: u16) -> bool
-    ensures { λ r. ⌜ Strayed other changed s x r ⌝ }
+// Whether a row of the subject t has risen, where a plan gave rows of the subject s.
+fn rose_at(told: bool, changed: bool, s: u16, t: u16) -> bool
+    ensures { λ r. ⌜ RoseAt told changed s t r ⌝ }
 {
     if !changed {
-        return other;
+        return told;
     }
-    if s != x {
+    if s == t {
         return true;
     }
-    other
+    told
 }
 
-// As `PutDone`, and whether a row of another subject than the asked row's rose.
+// As `PutDone`, and whether rows of the asked row's object rose, and of its predicate.
 struct RowDone {
     full: bool,
     changed: bool,
     other: bool,
+    third: bool,
     count: usize,
     next: usize,
 }
 
-// Draws what row i gives by every rule.
+// Draws what row i gives by every rule of the set.
 fn draw_row(
     kind: u8,
+    rules: u8,
     subj: &mut [u16],
     pred: &mut [u16],
     obj: &mut [u16],
@@ -58,7 +60,7 @@ fn draw_row(
     hint: usize,
 ) -> RowDone
     requires { ⌜ RowOfTable kind (lent subj pred obj ann) count i ⌝ }
-    ensures { λ r. ⌜ RowDrawn Rule plansFor kind (before subj pred obj ann) count i (after subj pred obj ann) (r .full) (r .changed) (r .other) (r .count) ⌝ }
+    ensures { λ r. ⌜ RowDrawn (rulesOf rules) (plansFor rules) kind (before subj pred obj ann) count i (after subj pred obj ann) (r .full) (r .changed) (r .other) (r .third) (r .count) ⌝ }
 {
     let x = subj[i];
     let d = pred[i];
@@ -67,20 +69,24 @@ fn draw_row(
     let mut n = count;
     let mut changed = false;
     let mut other = false;
+    let mut third = false;
     let mut near = hint;
+    let plans = plan_count(rules);
     let mut rule: u8 = 0;
-    while rule < RULES {
+    while rule < plans {
         let plan = plan_of(rule, x, d, y);
-        let done = pursue(kind, subj, pred, obj, ann, n, plan, a, near);
+        let done = pursue(kind, rules, subj, pred, obj, ann, n, plan, a, near);
         n = done.count;
         near = done.next;
         changed = either(changed, done.changed);
-        other = strayed(other, done.changed, plan.s, x);
+        other = rose_at(other, done.changed, plan.s, y);
+        third = rose_at(third, done.changed, plan.s, d);
         if done.full {
             return RowDone {
                 full: true,
                 changed,
                 other,
+                third,
                 count: n,
                 next: near,
             };
@@ -91,6 +97,7 @@ fn draw_row(
         full: false,
         changed,
         other,
+        third,
         count: n,
         next: near,
     }
@@ -113,18 +120,29 @@ fn meets(set: &[u64; 1024], x: u16, d: u16, y: u16) -> bool
     false
 }
 
-// Puts what rose by a row with the subject x and the object y into both sets.
-fn mark(due: &mut [u64; 1024], rose: &mut [u64; 1024], changed: bool, other: bool, x: u16, y: u16)
+// Puts what rose by a row (x d y) into both sets.
+fn mark(
+    due: &mut [u64; 1024],
+    rose: &mut [u64; 1024],
+    changed: bool,
+    other: bool,
+    third: bool,
+    x: u16,
+    y: u16,
+    d: u16,
+)
     requires { ⌜ Sets (now due) (now rose) ⌝ }
-    ensures { λ _. ⌜ Marked changed other x y (now (due .entry)) (now (due .exit)) (now (rose .entry)) (now (rose .exit)) ⌝ }
+    ensures { λ _. ⌜ Marked changed other third x y d (now (due .entry)) (now (due .exit)) (now (rose .entry)) (now (rose .exit)) ⌝ }
 {
     if !changed {
         return;
     }
     put_if(due, changed, x);
     put_if(due, other, y);
+    put_if(due, third, d);
     put_if(rose, changed, x);
     put_if(rose, other, y);
+    put_if(rose, third, d);
 }
 
 // The first row from `from` on that is due, or the count.
@@ -168,6 +186,7 @@ fn last_due(subj: &[u16], pred: &[u16], obj: &[u16], from: usize, due: &[u64; 10
 // Draws what row i gives, and puts what rose into both sets.
 fn ask_row(
     kind: u8,
+    rules: u8,
     subj: &mut [u16],
     pred: &mut [u16],
     obj: &mut [u16],
@@ -179,12 +198,13 @@ fn ask_row(
     rose: &mut [u64; 1024],
 ) -> PutDone
     requires { ⌜ RowOfTable kind (lent subj pred obj ann) count i × Sets (now due) (now rose) ⌝ }
-    ensures { λ r. ⌜ RowAsked Rule plansFor kind (before subj pred obj ann) count i (after subj pred obj ann) (r .full) (r .changed) (r .count) (now (due .entry)) (now (due .exit)) (now (rose .entry)) (now (rose .exit)) ⌝ }
+    ensures { λ r. ⌜ RowAsked (rulesOf rules) (plansFor rules) kind (before subj pred obj ann) count i (after subj pred obj ann) (r .full) (r .changed) (r .count) (now (due .entry)) (now (due .exit)) (now (rose .entry)) (now (rose .exit)) ⌝ }
 {
     let x = subj[i];
+    let d = pred[i];
     let y = obj[i];
-    let done = draw_row(kind, subj, pred, obj, ann, count, i, hint);
-    mark(due, rose, done.changed, done.other, x, y);
+    let done = draw_row(kind, rules, subj, pred, obj, ann, count, i, hint);
+    mark(due, rose, done.changed, done.other, done.third, x, y, d);
     PutDone {
         full: done.full,
         changed: done.changed,
@@ -239,6 +259,7 @@ fn onward(turn: u8, at: usize, more: usize) -> usize
 fn round(
     turn: u8,
     kind: u8,
+    rules: u8,
     subj: &mut [u16],
     pred: &mut [u16],
     obj: &mut [u16],
@@ -247,8 +268,8 @@ fn round(
     due: &mut [u64; 1024],
     rose: &mut [u64; 1024],
 ) -> PutDone
-    requires { ⌜ RoundDue plansFor kind (lent subj pred obj ann) count (now due) × Sets (now due) (now rose) ⌝ }
-    ensures { λ r. ⌜ RoundDrawn Rule plansFor kind (before subj pred obj ann) count (after subj pred obj ann) (r .full) (r .changed) (r .count) (now (rose .exit)) ⌝ }
+    requires { ⌜ RoundDue (plansFor rules) kind (lent subj pred obj ann) count (now due) × Sets (now due) (now rose) ⌝ }
+    ensures { λ r. ⌜ RoundDrawn (rulesOf rules) (plansFor rules) kind (before subj pred obj ann) count (after subj pred obj ann) (r .full) (r .changed) (r .count) (now (rose .exit)) ⌝ }
 {
     let mut n = count;
     let mut changed = false;
@@ -264,7 +285,7 @@ fn round(
                 next: near,
             };
         }
-        let done = ask_row(kind, subj, pred, obj, ann, n, at, near, due, rose);
+        let done = ask_row(kind, rules, subj, pred, obj, ann, n, at, near, due, rose);
         i = onward(turn, at, done.count - n);
         n = done.count;
         near = done.next;
@@ -316,6 +337,7 @@ pub struct Reached {
 // Round after round, until one changes nothing or finds no room. In the first, every row is due.
 pub fn saturate(
     kind: u8,
+    rules: u8,
     subj: &mut [u16],
     pred: &mut [u16],
     obj: &mut [u16],
@@ -323,14 +345,25 @@ pub fn saturate(
     count: usize,
 ) -> Reached
     requires { ⌜ Sound kind (lent subj pred obj ann) count ⌝ }
-    ensures { λ r. ⌜ Saturated Rule kind (before subj pred obj ann) count (after subj pred obj ann) (r .full) (r .count) ⌝ }
+    ensures { λ r. ⌜ Saturated (rulesOf rules) kind (before subj pred obj ann) count (after subj pred obj ann) (r .full) (r .count) ⌝ }
 {
     let mut n = count;
     let mut due: [u64; 1024] = [18446744073709551615; 1024];
     let mut rose: [u64; 1024] = [0; 1024];
     let mut turn: u8 = 3;
     loop {
-        let last = round(turn, kind, subj, pred, obj, ann, n, &mut due, &mut rose);
+        let last = round(
+            turn,
+            kind,
+            rules,
+            subj,
+            pred,
+            obj,
+            ann,
+            n,
+            &mut due,
+            &mut rose,
+        );
         turn = following(turn);
         n = last.count;
         if last.full {

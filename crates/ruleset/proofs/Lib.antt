@@ -1,1 +1,2 @@
--- Nothing is said of rule sets by themselves; the proof of the refusal is in its folder.
+-- Laws of the check of a rule set.
+pub mod Judged

@@ -6,14 +6,14 @@ use lib.Dec.{leb}
 use Rattle.term.specs.Refusal.{Check, refuse}
 
 -- "Edition 1 means rule set 1"; "Rule set 2 adds .."
-abbrev pub plainSet : ℕ
-plainSet = 1
+abbrev pub basicSet : ℕ
+basicSet = 1
 
 abbrev pub reflexiveSet : ℕ
 reflexiveSet = 2
 
 unfoldable pub isRuleSet : ℕ → Bool
-isRuleSet rules = leb plainSet rules && leb rules reflexiveSet
+isRuleSet rules = leb basicSet rules && leb rules reflexiveSet
 
 -- "36 rule set unknown"
 abbrev pub ruleSetChecks : ℕ → ℕ → List Check

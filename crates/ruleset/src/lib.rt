@@ -4,7 +4,7 @@ ghost use mathlib.Core.Path.{_≡_};
 ghost use Rattle.term.specs.Refusal.{first};
 ghost use Rattle.ruleset.specs.RuleSet.{ruleSetChecks};
 
-pub const PLAIN: u8 = 1;
+pub const BASIC: u8 = 1;
 
 pub const REFLEXIVE: u8 = 2;
 
@@ -14,7 +14,7 @@ pub const WRONG_RULE_SET: u8 = 36;
 pub fn rule_set_refusal(rules: u8) -> u8
     ensures { λ r. ⌜ r ≡ first (ruleSetChecks rules 0) .number ⌝ }
 {
-    if rules < PLAIN {
+    if rules < BASIC {
         return WRONG_RULE_SET;
     }
     if REFLEXIVE < rules {

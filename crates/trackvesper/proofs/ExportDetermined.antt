@@ -7,7 +7,7 @@ use native.Mathlib.Omega.{arith}
 use lib.ListN.{length}
 use Rattle.table.specs.Rows.{Row, Lanes}
 use Rattle.names.specs.Names.{NameLanes}
-use Rattle.rhodf.specs.Rules.{Rule}
+use Rattle.rhodf.specs.Rules.{rulesOf}
 use Rattle.rhodf.specs.Closure.{ClosureOf}
 use Rattle.rhodf.proofs.Exists.{closure-exists}
 use Rattle.book.specs.Writing.{bookLength}
@@ -19,25 +19,25 @@ module _ (b out x y : List ℕ) (r s : ℕ) (p : ClosedBook b out x r) (q : Clos
   from-unread : 0 < said b .verdict-of .number → (r ≡ s) × (x ≡ y)
   from-unread h = (p .unread h .0 ∙ sym (q .unread h .0), p .unread h .1 ∙ sym (q .unread h .1))
 
-  module _ (z : said b .verdict-of .number ≡ 0) (closed : List Row) (c : ClosureOf (said b .kind) Rule (said b .rows) closed) where
+  module _ (z : said b .verdict-of .number ≡ 0) (closed : List Row) (c : ClosureOf (said b .kind) (rulesOf (said b .rules)) (said b .rows) closed) where
     from-full : 1024 < length closed → (r ≡ s) × (x ≡ y)
     from-full h = (p .no-room z closed c h .0 ∙ sym (q .no-room z closed c h .0), p .no-room z closed c h .1 ∙ sym (q .no-room z closed c h .1))
 
-    from-fitting : length closed ≤ 1024 → Dec (length out < bookLength (length closed)) → (r ≡ s) × (x ≡ y)
+    from-fitting : length closed ≤ 1024 → Dec (length out < bookLength (said b .rules) (length closed)) → (r ≡ s) × (x ≡ y)
     from-fitting h (yes w) = (p .no-space z closed c h w .0 ∙ sym (q .no-space z closed c h w .0), p .no-space z closed c h w .1 ∙ sym (q .no-space z closed c h w .1))
     from-fitting h (no w) =
-        let fits : bookLength (length closed) ≤ length out = omega arith in
+        let fits : bookLength (said b .rules) (length closed) ≤ length out = omega arith in
         (p .written z closed c h fits .0 ∙ sym (q .written z closed c h fits .0), p .written z closed c h fits .1 ∙ sym (q .written z closed c h fits .1))
 
     from-room : Dec (1024 < length closed) → (r ≡ s) × (x ≡ y)
     from-room (yes h) = from-full h
-    from-room (no h) = from-fitting (omega arith) (decLt (length out) (bookLength (length closed)))
+    from-room (no h) = from-fitting (omega arith) (decLt (length out) (bookLength (said b .rules) (length closed)))
 
   from-read : Dec (0 < said b .verdict-of .number) → (r ≡ s) × (x ≡ y)
   from-read (yes h) = from-unread h
   from-read (no h) =
       let z : said b .verdict-of .number ≡ 0 = omega arith in
-      let c = closure-exists (said b .kind) (said b .rows) (reading-sound b freshLanes .sound z) in
+      let c = closure-exists (said b .kind) (said b .rules) (said b .rows) (reading-sound b freshLanes .sound z) in
       from-room z (c .0) (c .1) (decLt 1024 (length (c .0)))
 
   pub export-determined : (r ≡ s) × (x ≡ y)

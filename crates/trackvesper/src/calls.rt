@@ -76,14 +76,16 @@ pub extern "C" fn trackvesper_read(
     place: &mut usize,
     kind: &mut u8,
     base: &mut u16,
+    rules: &mut u8,
     count: &mut usize,
 ) -> u8
-    ensures { λ r. ⌜ Reading (now (book .entry)) (before subj pred obj ann) (after subj pred obj ann) r (now (place .exit)) (now (kind .exit)) (now (base .exit)) (now (count .exit)) ⌝ }
+    ensures { λ r. ⌜ Reading (now (book .entry)) (before subj pred obj ann) (after subj pred obj ann) r (now (place .exit)) (now (kind .exit)) (now (base .exit)) (now (rules .exit)) (now (count .exit)) ⌝ }
 {
     let answer = read(book, subj, pred, obj, ann);
     *place = answer.place;
     *kind = answer.kind;
     *base = answer.base;
+    *rules = answer.rules;
     *count = answer.count;
     answer.number
 }
@@ -93,6 +95,7 @@ pub extern "C" fn trackvesper_read(
 pub extern "C" fn trackvesper_write(
     kind: u8,
     base: u16,
+    rules: u8,
     subj: &[u16],
     pred: &[u16],
     obj: &[u16],
@@ -102,18 +105,19 @@ pub extern "C" fn trackvesper_write(
     place: &mut usize,
     length: &mut usize,
 ) -> u8
-    ensures { λ r. ⌜ Writing kind base (before subj pred obj ann) count (now (out .entry)) (now (out .exit)) r (now (place .exit)) (now (length .exit)) ⌝ }
+    ensures { λ r. ⌜ Writing kind base rules (before subj pred obj ann) count (now (out .entry)) (now (out .exit)) r (now (place .exit)) (now (length .exit)) ⌝ }
 {
-    let answer = write(kind, base, subj, pred, obj, ann, count, out);
+    let answer = write(kind, base, rules, subj, pred, obj, ann, count, out);
     *place = answer.place;
     *length = answer.length;
     answer.number
 }
 
-// Closes a table; count goes in as the table's count and comes out as the new one.
+// Closes a table under a rule set; count goes in as the table's count and comes out as the new one.
 #[no_mangle]
 pub extern "C" fn trackvesper_close(
     kind: u8,
+    rules: u8,
     subj: &mut [u16],
     pred: &mut [u16],
     obj: &mut [u16],
@@ -121,9 +125,9 @@ pub extern "C" fn trackvesper_close(
     count: &mut usize,
     place: &mut usize,
 ) -> u8
-    ensures { λ r. ⌜ Closing kind (before subj pred obj ann) (now (count .entry)) (after subj pred obj ann) r (now (place .exit)) (now (count .exit)) ⌝ }
+    ensures { λ r. ⌜ Closing kind rules (before subj pred obj ann) (now (count .entry)) (after subj pred obj ann) r (now (place .exit)) (now (count .exit)) ⌝ }
 {
-    let answer = close(kind, subj, pred, obj, ann, *count);
+    let answer = close(kind, rules, subj, pred, obj, ann, *count);
     *count = answer.count;
     *place = answer.place;
     answer.number

@@ -46,7 +46,7 @@ fn pack(number: u8, rest: usize) -> u64
     (number as u64) * A_NUMBER + (rest as u64)
 }
 
-// Reads the book into lanes of zeros, closes them, and writes them out.
+// Reads the book into lanes of zeros, closes them under its rule set, and writes them out.
 fn close_into(
     book: &[u8],
     out: &mut [u8],
@@ -62,13 +62,14 @@ fn close_into(
     if head.number > 0 {
         return pack(head.number, head.place);
     }
-    let closed = close(head.kind, subj, pred, obj, ann, head.count);
+    let closed = close(head.kind, head.rules, subj, pred, obj, ann, head.count);
     if closed.number > 0 {
         return pack(closed.number, closed.place);
     }
     let done = write(
         head.kind,
         head.base,
+        head.rules,
         subj,
         pred,
         obj,

@@ -16,7 +16,7 @@ use Rattle.rhodf.specs.Rules.{Rules}
 use Rattle.rhodf.proofs.Graphs.{below-trans}
 use Rattle.rhodf.proofs.Growing.{rows-valued}
 use Rattle.plans.specs.declared.Plan.{Plan}
-use Rattle.plans.specs.Plans.{shapeOff, shapeStraight, shapeRenaming, straightIf, Met, Obeyed}
+use Rattle.plans.specs.Plans.{shapeOff, shapeStraight, shapeRenaming, shapeAlone, straightIf, Met, Obeyed}
 use Rattle.plans.proofs.Meeting.{met-lower, met-bottom}
 use Rattle.walks.specs.Rising.{Above, Risen, Drew}
 use Rattle.walks.specs.Walks.{Concluded, OfOne, Raised, Once, Gives, Beyond, Planned, Walked, Begins, Meeting, RowMet, MeetingDrawn}
@@ -42,7 +42,26 @@ module _ {R : Rules} {kind : ℕ} {S : ℕ → Type 0} {plan : Plan} {a : ℕ} {
   pub walked-off : plan .shape ≡ shapeOff → Walked R kind plan a l n l false false n
   walked-off e = drew-none (c .sound) (record {
     met = λ z. record { straight = λ f. absurd (omega (arith, e, f)); renaming = λ f. absurd (omega (arith, e, f)); behind = λ f. absurd (omega (arith, e, f)) };
+    alone = λ f. absurd (omega (arith, e, f));
   })
+
+  -- what a plan gives alone follows, and it is obeyed where that is at most its value
+  module _ (e : plan .shape ≡ shapeAlone) where
+    pub alone-concluded : Concluded R kind (row (plan .s) (plan .p) (plan .o) a) l n
+    alone-concluded = record {
+      sound = c .sound;
+      subject = c .legal .subject;
+      object = c .legal .object;
+      value = c .value;
+      follows = λ named H h. c .sure H h .alone e named;
+    }
+
+    pub alone-walked : {m : Lanes} {full changed : Bool} {n′ : ℕ} → Raised R kind (row (plan .s) (plan .p) (plan .o) a) l n m full changed n′
+        → Walked R kind plan a l n m full changed n′
+    alone-walked r = drew-so r (λ _ _ q. record {
+      met = λ z. record { straight = λ f. absurd (omega (arith, e, f)); renaming = λ f. absurd (omega (arith, e, f)); behind = λ f. absurd (omega (arith, e, f)) };
+      alone = λ _. q;
+    })
 
 pub by-shape : (shape : ℕ) → Once shape → (shape ≡ shapeStraight) ⊎ (shape ≡ shapeRenaming)
 by-shape zero h = absurd (omega (arith, h .0))
@@ -126,7 +145,10 @@ module _ {R : Rules} {kind : ℕ} {S : ℕ → Type 0} {plan : Plan} {a : ℕ} {
         shaped = (omega arith, omega arith);
         legal = record { known = omega arith; subject = c .planned .legal .subject; object = c .planned .legal .subject };
         value = both-value;
-        sure = λ H h. record { met = λ w. record { straight = λ _. met-sure H h .behind e w; renaming = λ f. absurd (omega arith); behind = λ f. absurd (omega arith) } };
+        sure = λ H h. record {
+          met = λ w. record { straight = λ _. met-sure H h .behind e w; renaming = λ f. absurd (omega arith); behind = λ f. absurd (omega arith) };
+          alone = λ f. absurd (omega arith);
+        };
       })
 
       pub behind-drawn : {m : Lanes} {full changed : Bool} {n′ : ℕ} → Walked R kind inner b l n m full changed n′ → MeetingDrawn R kind plan a l n i m full changed n′
@@ -137,8 +159,8 @@ module _ {R : Rules} {kind : ℕ} {S : ℕ → Type 0} {plan : Plan} {a : ℕ} {
       })
 
 -- the walk along the rows that the plan meets
-module _ {R : Rules} {kind : ℕ} {S : ℕ → Type 0} {plan : Plan} {a : ℕ} {l : Lanes} {n : ℕ} (c : Planned R kind S plan a l n) (small : plan .r < 65536)
-    {at : ℕ} (pl : Placed (l .subj) (l .pred) (l .obj) n (keyOf (plan .q) (plan .r) 0) at) where
+module _ {R : Rules} {kind : ℕ} {S : ℕ → Type 0} {plan : Plan} {a : ℕ} {l : Lanes} {n : ℕ} (c : Planned R kind S plan a l n) (meets : plan .shape < shapeAlone)
+    (small : plan .r < 65536) {at : ℕ} (pl : Placed (l .subj) (l .pred) (l .obj) n (keyOf (plan .q) (plan .r) 0) at) where
   pub walk-start : Drew R kind (OfOne (plan .s)) (Passed (RowMet kind plan a) at at l n) l n l false false n
   walk-start = drew-none (c .sound) (record {
     reached = omega arith;
@@ -149,7 +171,7 @@ module _ {R : Rules} {kind : ℕ} {S : ℕ → Type 0} {plan : Plan} {a : ℕ} {
   G = graphOf (rowsOf l n)
 
   all-met : (i : ℕ) → Passed (RowMet kind plan a) at i l n → (i < n → rowAt l i .s ≡ plan .q → rowAt l i .p ≡ plan .r → ⊥) → Obeyed (algebra kind) G plan a
-  all-met i p stops = record { met = λ z. go z (tri 0 (G (triple (plan .q) (plan .r) z))) }
+  all-met i p stops = record { met = λ z. go z (tri 0 (G (triple (plan .q) (plan .r) z))); alone = λ f. absurd (omega (arith, f)) }
     where
       go : (z : ℕ) → Tri 0 (G (triple (plan .q) (plan .r) z)) → Met (algebra kind) G plan z (algebra kind .meet a (G (triple (plan .q) (plan .r) z)))
       go z (less h) =

@@ -12,7 +12,7 @@ use Rattle.table.specs.Sound.{Sound}
 use Rattle.rhodf.specs.Graph.{Graph, graphOf}
 use Rattle.rhodf.specs.Rules.{Rules, Drawn}
 use Rattle.plans.specs.declared.Plan.{Plan}
-use Rattle.plans.specs.Plans.{shapeOff, shapeStraight, shapeRenaming, shapeBehind, LegalPlan, Met, Obeyed}
+use Rattle.plans.specs.Plans.{shapeOff, shapeStraight, shapeRenaming, shapeBehind, shapeAlone, LegalPlan, Met, Obeyed}
 use Rattle.walks.specs.Rising.{Above, Drew}
 
 -- a conclusion that every closed graph above the table has
@@ -35,7 +35,7 @@ Raised R kind r l n m full changed n′ =
 
 -- the shapes that carry a plan out, give by each row that it meets, and look behind it
 abbrev pub Known : ℕ → Type 0
-Known shape = shape ≤ shapeBehind
+Known shape = shape ≤ shapeAlone
 
 abbrev pub Once : ℕ → Type 0
 Once shape = (shapeOff < shape) × (shape < shapeBehind)

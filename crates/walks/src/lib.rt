@@ -1,13 +1,14 @@
-// Carrying out a plan: a conclusion, the rows that the plan meets one after another, and the rows behind each of them.
+// Carrying out a plan of a rule set: a conclusion, the rows that the plan meets one after another, and the rows behind each of them.
 // Nothing is refused here; where a row finds no room, the caller is told (`full`).
 // The table may grow under a walk and rows move; only a walk that changed nothing shows that its plan is obeyed.
 // Each conclusion is looked for behind the one before (`hint`, `near`): they mostly come in order.
 ghost use Rattle.table.specs.Rows.{row};
 ghost use Rattle.table.specs.Lent.{before, after, lent};
-ghost use Rattle.rhodf.specs.Rules.{Rule};
+ghost use Rattle.rhodf.specs.Rules.{rulesOf};
 ghost use Rattle.walks.specs.Rising.{Either};
 ghost use Rattle.walks.specs.Walks.{Concluded, Raised, Gives, Known, Once, Beyond, Planned, Walked, WithinTwo, Begins, Meeting, MeetingDrawn};
 use annotation::meet;
+use plans::ALONE;
 use plans::BEHIND;
 use plans::OFF;
 use plans::Plan;
@@ -27,6 +28,7 @@ pub fn either(a: bool, b: bool) -> bool
 // Puts a conclusion in; one whose predicate is no name, or whose annotation is 0, is not drawn.
 fn raise(
     kind: u8,
+    rules: u8,
     subj: &mut [u16],
     pred: &mut [u16],
     obj: &mut [u16],
@@ -38,8 +40,8 @@ fn raise(
     a: u64,
     hint: usize,
 ) -> PutDone
-    requires { ⌜ Concluded Rule kind (row s p o a) (lent subj pred obj ann) count ⌝ }
-    ensures { λ r. ⌜ Raised Rule kind (row s p o a) (before subj pred obj ann) count (after subj pred obj ann) (r .full) (r .changed) (r .count) ⌝ }
+    requires { ⌜ Concluded (rulesOf rules) kind (row s p o a) (lent subj pred obj ann) count ⌝ }
+    ensures { λ r. ⌜ Raised (rulesOf rules) kind (row s p o a) (before subj pred obj ann) count (after subj pred obj ann) (r .full) (r .changed) (r .count) ⌝ }
 {
     if term::sort_of(p) != term::NAME {
         return PutDone {
@@ -78,6 +80,7 @@ fn given(plan: Plan, z: u16) -> Rest
 // Draws what row i, which the plan meets, gives. One call of `raise`, so that it is laid into the walk.
 fn draw_met(
     kind: u8,
+    rules: u8,
     subj: &mut [u16],
     pred: &mut [u16],
     obj: &mut [u16],
@@ -88,14 +91,15 @@ fn draw_met(
     a: u64,
     hint: usize,
 ) -> PutDone
-    requires { ⌜ Meeting Rule kind Once plan a (lent subj pred obj ann) count i ⌝ }
-    ensures { λ r. ⌜ MeetingDrawn Rule kind plan a (before subj pred obj ann) count i (after subj pred obj ann) (r .full) (r .changed) (r .count) ⌝ }
+    requires { ⌜ Meeting (rulesOf rules) kind Once plan a (lent subj pred obj ann) count i ⌝ }
+    ensures { λ r. ⌜ MeetingDrawn (rulesOf rules) kind plan a (before subj pred obj ann) count i (after subj pred obj ann) (r .full) (r .changed) (r .count) ⌝ }
 {
     let z = obj[i];
     let c = meet(kind, a, ann[i]);
     let gives = given(plan, z);
     raise(
         kind,
+        rules,
         subj,
         pred,
         obj,
@@ -125,6 +129,7 @@ fn begins(subj: &[u16], pred: &[u16], count: usize, i: usize, q: u16, r: u16) ->
 // Every row that the plan meets, one after another.
 fn walk(
     kind: u8,
+    rules: u8,
     subj: &mut [u16],
     pred: &mut [u16],
     obj: &mut [u16],
@@ -134,15 +139,15 @@ fn walk(
     a: u64,
     hint: usize,
 ) -> PutDone
-    requires { ⌜ Planned Rule kind Once plan a (lent subj pred obj ann) count ⌝ }
-    ensures { λ r. ⌜ Walked Rule kind plan a (before subj pred obj ann) count (after subj pred obj ann) (r .full) (r .changed) (r .count) ⌝ }
+    requires { ⌜ Planned (rulesOf rules) kind Once plan a (lent subj pred obj ann) count ⌝ }
+    ensures { λ r. ⌜ Walked (rulesOf rules) kind plan a (before subj pred obj ann) count (after subj pred obj ann) (r .full) (r .changed) (r .count) ⌝ }
 {
     let mut n = count;
     let mut changed = false;
     let mut near = hint;
     let mut i = find(subj, pred, obj, count, key_of(plan.q, plan.r, 0));
     while begins(subj, pred, n, i, plan.q, plan.r) {
-        let done = draw_met(kind, subj, pred, obj, ann, n, i, plan, a, near);
+        let done = draw_met(kind, rules, subj, pred, obj, ann, n, i, plan, a, near);
         n = done.count;
         near = done.next;
         changed = either(changed, done.changed);
@@ -167,6 +172,7 @@ fn walk(
 // Draws what the rows behind row i, which the plan meets, give.
 fn draw_behind(
     kind: u8,
+    rules: u8,
     subj: &mut [u16],
     pred: &mut [u16],
     obj: &mut [u16],
@@ -177,18 +183,19 @@ fn draw_behind(
     a: u64,
     hint: usize,
 ) -> PutDone
-    requires { ⌜ Meeting Rule kind Beyond plan a (lent subj pred obj ann) count i ⌝ }
-    ensures { λ r. ⌜ MeetingDrawn Rule kind plan a (before subj pred obj ann) count i (after subj pred obj ann) (r .full) (r .changed) (r .count) ⌝ }
+    requires { ⌜ Meeting (rulesOf rules) kind Beyond plan a (lent subj pred obj ann) count i ⌝ }
+    ensures { λ r. ⌜ MeetingDrawn (rulesOf rules) kind plan a (before subj pred obj ann) count i (after subj pred obj ann) (r .full) (r .changed) (r .count) ⌝ }
 {
     let z = obj[i];
     let c = meet(kind, a, ann[i]);
     let inner = straight_plan(true, z, plan.t, plan.s, plan.p);
-    walk(kind, subj, pred, obj, ann, count, inner, c, hint)
+    walk(kind, rules, subj, pred, obj, ann, count, inner, c, hint)
 }
 
 // The same as `walk`, of a plan that looks behind the rows that it meets.
 fn walk_behind(
     kind: u8,
+    rules: u8,
     subj: &mut [u16],
     pred: &mut [u16],
     obj: &mut [u16],
@@ -198,15 +205,15 @@ fn walk_behind(
     a: u64,
     hint: usize,
 ) -> PutDone
-    requires { ⌜ Planned Rule kind Beyond plan a (lent subj pred obj ann) count ⌝ }
-    ensures { λ r. ⌜ Walked Rule kind plan a (before subj pred obj ann) count (after subj pred obj ann) (r .full) (r .changed) (r .count) ⌝ }
+    requires { ⌜ Planned (rulesOf rules) kind Beyond plan a (lent subj pred obj ann) count ⌝ }
+    ensures { λ r. ⌜ Walked (rulesOf rules) kind plan a (before subj pred obj ann) count (after subj pred obj ann) (r .full) (r .changed) (r .count) ⌝ }
 {
     let mut n = count;
     let mut changed = false;
     let mut near = hint;
     let mut i = find(subj, pred, obj, count, key_of(plan.q, plan.r, 0));
     while begins(subj, pred, n, i, plan.q, plan.r) {
-        let done = draw_behind(kind, subj, pred, obj, ann, n, i, plan, a, near);
+        let done = draw_behind(kind, rules, subj, pred, obj, ann, n, i, plan, a, near);
         n = done.count;
         near = done.next;
         changed = either(changed, done.changed);
@@ -231,6 +238,7 @@ fn walk_behind(
 // Carries out a plan for a row with the annotation a.
 pub fn pursue(
     kind: u8,
+    rules: u8,
     subj: &mut [u16],
     pred: &mut [u16],
     obj: &mut [u16],
@@ -240,8 +248,8 @@ pub fn pursue(
     a: u64,
     hint: usize,
 ) -> PutDone
-    requires { ⌜ Planned Rule kind Known plan a (lent subj pred obj ann) count ⌝ }
-    ensures { λ r. ⌜ Walked Rule kind plan a (before subj pred obj ann) count (after subj pred obj ann) (r .full) (r .changed) (r .count) ⌝ }
+    requires { ⌜ Planned (rulesOf rules) kind Known plan a (lent subj pred obj ann) count ⌝ }
+    ensures { λ r. ⌜ Walked (rulesOf rules) kind plan a (before subj pred obj ann) count (after subj pred obj ann) (r .full) (r .changed) (r .count) ⌝ }
 {
     if plan.shape == OFF {
         return PutDone {
@@ -252,7 +260,23 @@ pub fn pursue(
         };
     }
     if plan.shape < BEHIND {
-        return walk(kind, subj, pred, obj, ann, count, plan, a, hint);
+        return walk(kind, rules, subj, pred, obj, ann, count, plan, a, hint);
     }
-    walk_behind(kind, subj, pred, obj, ann, count, plan, a, hint)
+    if plan.shape == ALONE {
+        return raise(
+            kind,
+            rules,
+            subj,
+            pred,
+            obj,
+            ann,
+            count,
+            plan.s,
+            plan.p,
+            plan.o,
+            a,
+            hint,
+        );
+    }
+    walk_behind(kind, rules, subj, pred, obj, ann, count, plan, a, hint)
 }

@@ -6,7 +6,8 @@ use trial::book;
 use trial::pattern::{AnnSlot, Pattern, Slot};
 use trial::question::{bytes_of, Part};
 use trial::random::counters::behind_length;
-use trial::random::{books, closings, counters, files, legal_kind, lists, questions, Random};
+use trial::random::Random;
+use trial::random::{books, closings, counters, files, legal_kind, legal_rules, lists, questions};
 
 /// Any book at all, or one whose closure is of interest.
 fn a_book(random: &mut Random) -> Vec<u8> {
@@ -15,11 +16,12 @@ fn a_book(random: &mut Random) -> Vec<u8> {
     }
     let kind = legal_kind(random);
     let rows = closings::rows(random, kind);
-    book::bytes_of(kind, books::base(random, kind), &rows)
+    let base = books::base(random, kind);
+    book::bytes_of(kind, base, legal_rules(random), &rows)
 }
 
 fn an_exported_input(random: &mut Random) -> Vec<u8> {
-    let length = random.pick(&[17_415u16, 17_415, 65_535, 0, 7, 24, 58]);
+    let length = random.pick(&[17_416u16, 17_416, 65_535, 0, 7, 8, 24, 58, 144]);
     [&length.to_be_bytes()[..], &a_book(random)].concat()
 }
 

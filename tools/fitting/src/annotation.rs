@@ -35,12 +35,7 @@ impl Kind {
         }
     }
 
-    /// The line of a text that says it.
-    pub fn line(self) -> String {
-        format!("kind {}", self.words())
-    }
-
-    /// What stands there behind `kind`.
+    /// What stands behind `kind` in the line of a text that says it.
     pub fn words(self) -> String {
         match self {
             Kind::Years { base } => format!("years from {base}"),

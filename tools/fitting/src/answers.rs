@@ -104,7 +104,8 @@ impl Asking<'_> {
         let placed = place_word(Refused::Question, asked.refusal).and(line);
         let source = placed.map(|line| self.text.lines.line(line));
         let line = placed.or(Some(question.first_line));
-        refusal::written(self.file, line, source, Refused::Question, asked.refusal)
+        let head = self.text.head;
+        refusal::written(self.file, line, source, head, Refused::Question, asked.refusal)
     }
 
     /// What a question names and the book does not have; a misspelt name is among them.

@@ -40,6 +40,7 @@ pub struct Options {
     pub looks: u32,
     pub quiet: bool,
     pub closed: bool,
+    pub no_reflexive: bool,
     pub kind: Option<String>,
     pub when: Option<String>,
     pub base: String,
@@ -53,6 +54,7 @@ impl Default for Options {
             looks: u32::MAX,
             quiet: false,
             closed: false,
+            no_reflexive: false,
             kind: None,
             when: None,
             base: BASE.to_string(),
@@ -65,12 +67,17 @@ impl Default for Options {
 /// The commands, the files that each wants, and its options.
 const COMMANDS: [(&str, Command, usize, &[&str]); 11] = [
     ("check", Command::Check, 1, &["--quiet"]),
-    ("close", Command::Close, 1, &["--quiet"]),
+    ("close", Command::Close, 1, &["--no-reflexive", "--quiet"]),
     ("ask", Command::Ask, 1, &["--looks", "--quiet"]),
-    ("page", Command::Page, 1, &["--looks", "--quiet"]),
-    ("diff", Command::Diff, 2, &["--quiet"]),
+    ("page", Command::Page, 1, &["--looks", "--no-reflexive", "--quiet"]),
+    ("diff", Command::Diff, 2, &["--no-reflexive", "--quiet"]),
     ("import", Command::Import, 1, &["--kind", "--when", "--base", "--from"]),
-    ("export", Command::Export, 1, &["--to", "--when", "--closed", "--base", "--quiet"]),
+    (
+        "export",
+        Command::Export,
+        1,
+        &["--to", "--when", "--closed", "--no-reflexive", "--base", "--quiet"],
+    ),
     ("book", Command::Book, 1, &["--quiet"]),
     ("questions", Command::Questions, 1, &["--quiet"]),
     ("names", Command::Names, 1, &["--quiet"]),
@@ -128,12 +135,13 @@ fn option<'a>(
         let list = known.join(", ");
         return Err(format!("{command} has no option {name}; it has: {list}"));
     }
-    if ["--quiet", "--closed"].contains(&name) {
+    if ["--quiet", "--closed", "--no-reflexive"].contains(&name) {
         if glued.is_some() {
             return Err(format!("{name} stands alone"));
         }
         options.quiet |= name == "--quiet";
         options.closed |= name == "--closed";
+        options.no_reflexive |= name == "--no-reflexive";
         return Ok(());
     }
     let value = glued
@@ -208,7 +216,10 @@ mod tests {
         assert_eq!(wrong("clsoe a"), "there is no command clsoe; is `close` meant?");
         assert_eq!(wrong("close"), "close wants one file, and not 0");
         assert_eq!(wrong("diff a"), "diff wants two files, and not 1");
-        assert_eq!(wrong("close a --looks 3"), "close has no option --looks; it has: --quiet");
+        assert_eq!(
+            wrong("close a --looks 3"),
+            "close has no option --looks; it has: --no-reflexive, --quiet"
+        );
         assert_eq!(wrong("ask a --looks"), "something is missing behind --looks");
         assert_eq!(
             wrong("ask a --looks -3"),

@@ -3,13 +3,14 @@
 use crate::annotation::Kind;
 use crate::answers::Asking;
 use crate::arguments::{Command, Job};
-use crate::calls::{Calls, Row, Table};
+use crate::calls::{Book, Calls, Row, Table};
 use crate::columns::Columns;
-use crate::diff::{differences, Holding};
+use crate::diff::{differences, Held, Holding};
 use crate::exchange::{self, Form};
 use crate::fields::LONGEST;
+use crate::head::Head;
 use crate::input::Source;
-use crate::listing::{self, listing, terms};
+use crate::listing::{self, is_bare_reflexive, listing, terms};
 use crate::refusal::{self, Refused};
 use crate::text::{self, Text};
 use crate::{namelist, notes, page};
@@ -87,20 +88,21 @@ impl Bench<'_> {
         Ok(text)
     }
 
-    /// The book's rows as the library reads them.
-    fn table(&self, source: &Source, text: &Text) -> Result<(Kind, Table), Trouble> {
+    /// The book as the library reads it.
+    fn library_book(&self, source: &Source, text: &Text) -> Result<(Head, Book), Trouble> {
         let refused = |refusal| Trouble::Said(refusal::of_book(&source.name, text, refusal));
         let book = self.calls()?.read(&text.book.bytes).map_err(refused)?;
-        let kind = text.kind.ok_or_else(|| {
+        let head = text.head.ok_or_else(|| {
             Trouble::Said("fitting: a book without a kind was not refused\n".to_string())
         })?;
-        Ok((kind, book.table))
+        Ok((head, book))
     }
 
-    fn closed(&self, source: &Source, text: &Text) -> Result<(Kind, Table), Trouble> {
-        let (kind, table) = self.table(source, text)?;
+    /// The book's rows with what follows from them by its rule set.
+    fn closed(&self, source: &Source, text: &Text) -> Result<(Head, Table), Trouble> {
+        let (head, book) = self.library_book(source, text)?;
         let refused = |refusal| Trouble::Said(refusal::of_book(&source.name, text, refusal));
-        Ok((kind, self.calls()?.close(&table).map_err(refused)?))
+        Ok((head, self.calls()?.close(book.rules, &book.table).map_err(refused)?))
     }
 
     fn print(&mut self, bytes: &[u8]) -> Done {
@@ -110,7 +112,7 @@ impl Bench<'_> {
 
     fn check(&mut self, source: &Source) -> Done {
         let text = self.read(source)?;
-        let (kind, table) = self.closed(source, &text)?;
+        let (Head { kind, .. }, table) = self.closed(source, &text)?;
         let mut refused = String::new();
         // No look is allowed: a question that is right stops with 24 at its first, or needs none.
         let asking = Asking {
@@ -136,10 +138,28 @@ impl Bench<'_> {
 
     fn close(&mut self, source: &Source) -> Done {
         let text = self.read(source)?;
-        let (kind, table) = self.closed(source, &text)?;
-        let shown =
-            listing(kind, &text.names, &table.rows, Some(&text.stated)).ok_or_else(strange_term)?;
+        let (head, table) = self.closed(source, &text)?;
+        let (rows, left_out) = self.shown(&text, table.rows);
+        let mut shown =
+            listing(head, &text.names, &rows, Some(&text.stated)).ok_or_else(strange_term)?;
+        match left_out {
+            0 => {}
+            1 => shown += "# 1 reflexive line is left out\n",
+            _ => shown += &format!("# {left_out} reflexive lines are left out\n"),
+        }
         self.print(shown.as_bytes())
+    }
+
+    /// The rows to print, and how many reflexive ones that follow are left out.
+    fn shown(&self, text: &Text, rows: Vec<Row>) -> (Vec<Row>, usize) {
+        if !self.job.options.no_reflexive {
+            return (rows, 0);
+        }
+        let count = rows.len();
+        let is_shown = |row: &Row| !is_bare_reflexive(row, &text.stated);
+        let shown: Vec<Row> = rows.into_iter().filter(is_shown).collect();
+        let left_out = count - shown.len();
+        (shown, left_out)
     }
 
     fn ask(&mut self, source: &Source) -> Done {
@@ -152,7 +172,7 @@ impl Bench<'_> {
             );
             return Err(Trouble::Said(words));
         }
-        let (kind, table) = self.closed(source, &text)?;
+        let (Head { kind, .. }, table) = self.closed(source, &text)?;
         let (calls, looks) = (self.calls.ok_or_else(strange_term)?, self.job.options.looks);
         let asking = Asking { calls, file: &source.name, text: &text, kind, table: &table, looks };
         Ok(asking.all(self.out)?)
@@ -160,8 +180,9 @@ impl Bench<'_> {
 
     fn page(&mut self, source: &Source) -> Done {
         let text = self.read(source)?;
-        let (kind, table) = self.closed(source, &text)?;
+        let (Head { kind, rules }, table) = self.closed(source, &text)?;
         let looks = self.job.options.looks;
+        let (rows, _) = self.shown(&text, table.rows.clone());
         let asking = Asking {
             calls: self.calls()?,
             file: &source.name,
@@ -170,7 +191,7 @@ impl Bench<'_> {
             table: &table,
             looks,
         };
-        let (page, done) = page::page(&asking);
+        let (page, done) = page::page(&asking, rules, &rows);
         self.print(page.as_bytes())?;
         Ok(done)
     }
@@ -179,36 +200,40 @@ impl Bench<'_> {
         let mut books = Vec::new();
         for source in std::iter::once(left).chain(others) {
             let text = self.read(source)?;
-            let (kind, table) = self.closed(source, &text)?;
-            let row = |row: &Row| Some((terms(&text.names, row)?, row.value));
-            let rows =
-                table.rows.iter().map(row).collect::<Option<Vec<_>>>().ok_or_else(strange_term)?;
-            books.push(Holding { file: source.name.clone(), kind, rows });
+            let (head, table) = self.closed(source, &text)?;
+            let held = |row: &Row| {
+                let is_bare = is_bare_reflexive(row, &text.stated);
+                Some(Held { triple: terms(&text.names, row)?, value: row.value, is_bare })
+            };
+            let rows = table.rows.iter().map(held).collect::<Option<_>>();
+            let rows = rows.ok_or_else(strange_term)?;
+            books.push(Holding { file: source.name.clone(), head, rows });
         }
         let [left, right] = &books[..] else {
             return Err(Trouble::Use("diff wants two files".to_string()));
         };
-        let shown = differences(left, right).map_err(Trouble::Said)?;
+        let shown =
+            differences(left, right, self.job.options.no_reflexive).map_err(Trouble::Said)?;
         self.print(shown.as_bytes())
     }
 
     fn import(&mut self, source: &Source) -> Done {
         let options = &self.job.options;
-        let kind = options.kind.as_deref().map(exchange::kind).transpose();
-        let kind = kind.map_err(|words| Trouble::Use(format!("--kind: {words}")))?;
+        let head = options.kind.as_deref().map(exchange::head).transpose();
+        let head = head.map_err(|words| Trouble::Use(format!("--kind: {words}")))?;
         let form = options.form.or_else(|| Form::of_file(&source.name));
         let text = match form.ok_or_else(|| {
             Trouble::Use("say the form of the file: --from nt or --from csv".to_string())
         })? {
-            Form::Csv => exchange::import_table(source, kind),
+            Form::Csv => exchange::import_table(source, head),
             Form::NTriples => {
-                let (Some(kind), Some(said)) = (kind, &options.when) else {
+                let (Some(head), Some(said)) = (head, &options.when) else {
                     let words = "a makers' list has no years: say its kind and when its lines hold, as in --kind \"years from 2000\" --when 2001-2005";
                     return Err(Trouble::Use(words.to_string()));
                 };
-                let value = exchange::when(kind, said)
+                let value = exchange::when(head.kind, said)
                     .map_err(|words| Trouble::Use(format!("--when: {words}")))?;
-                exchange::import_list(self.calls()?, source, kind, value, &options.base)
+                exchange::import_list(self.calls()?, source, head, value, &options.base)
             }
         };
         self.print(text.map_err(Trouble::Said)?.as_bytes())
@@ -223,19 +248,28 @@ impl Bench<'_> {
         if form == Form::NTriples && options.when.is_none() {
             return Err(Trouble::Use(unsaid.to_string()));
         }
+        if options.no_reflexive && !options.closed {
+            let words = "--no-reflexive leaves out lines that follow, and without --closed none is printed: say --closed too";
+            return Err(Trouble::Use(words.to_string()));
+        }
         let text = self.read(source)?;
-        let (kind, table) =
-            if options.closed { self.closed(source, &text)? } else { self.table(source, &text)? };
+        let (head, rows) = match options.closed {
+            true => self.closed(source, &text).map(|(head, table)| (head, table.rows))?,
+            false => {
+                self.library_book(source, &text).map(|(head, book)| (head, book.table.rows))?
+            }
+        };
+        let kind = head.kind;
         let least = match options.when.as_deref() {
             None | Some("any") => 0,
             Some(said) => exchange::when(kind, said)
                 .map_err(|words| Trouble::Use(format!("--when: {words}")))?,
         };
-        let rows: Vec<Row> =
-            table.rows.into_iter().filter(|row| kind.covers(row.value, least)).collect();
+        let (rows, _) = self.shown(&text, rows);
+        let rows: Vec<Row> = rows.into_iter().filter(|row| kind.covers(row.value, least)).collect();
         match form {
             Form::NTriples => self.export_list(kind, &text, &rows),
-            Form::Csv => self.export_table(kind, &text, &rows),
+            Form::Csv => self.export_table(head, &text, &rows),
         }
     }
 
@@ -251,10 +285,10 @@ impl Bench<'_> {
         Ok(left_out.is_empty())
     }
 
-    fn export_table(&mut self, kind: Kind, text: &Text, rows: &[Row]) -> Done {
+    fn export_table(&mut self, head: Head, text: &Text, rows: &[Row]) -> Done {
         let marked: Vec<(Row, listing::Source)> =
             rows.iter().map(|row| (*row, listing::Source::of(row, &text.stated))).collect();
-        let (table, formulas) = exchange::export_table(kind, &text.names, &marked);
+        let (table, formulas) = exchange::export_table(head, &text.names, &marked);
         self.print(table.as_bytes())?;
         for name in formulas {
             writeln!(self.err, "note: a spreadsheet may take {name} for a formula")?;
@@ -292,7 +326,7 @@ impl Bench<'_> {
                 .map_err(|faults| Trouble::Said(faults.written(&names.name)))?,
         };
         let refused = |refusal| {
-            Trouble::Said(refusal::written(&source.name, None, None, Refused::Book, refusal))
+            Trouble::Said(refusal::written(&source.name, None, None, None, Refused::Bytes, refusal))
         };
         let book = self.calls()?.read(&source.bytes).map_err(refused)?;
         let kind = Kind::of(book.table.kind, book.base).ok_or_else(strange_term)?;
@@ -302,7 +336,8 @@ impl Bench<'_> {
             words
         };
         let lines: Vec<Vec<String>> = book.table.rows.iter().map(line).collect();
-        writeln!(self.out, "{}", kind.line())?;
+        let head = Head { kind, rules: book.rules.number() };
+        writeln!(self.out, "{}", head.line())?;
         Columns::default()
             .lines(&lines)
             .iter()

@@ -2,6 +2,7 @@
 
 use crate::annotation::Kind;
 use crate::columns::Columns;
+use crate::head::Head;
 use crate::order;
 use std::cmp::Ordering;
 use std::collections::BTreeMap;
@@ -9,8 +10,16 @@ use std::collections::BTreeMap;
 /// A closed book, its terms as a text writes them.
 pub struct Holding {
     pub file: String,
-    pub kind: Kind,
-    pub rows: Vec<([String; 3], u64)>,
+    pub head: Head,
+    pub rows: Vec<Held>,
+}
+
+/// A row of it.
+pub struct Held {
+    pub triple: [String; 3],
+    pub value: u64,
+    /// Reflexive, and no line of the book's own.
+    pub is_bare: bool,
 }
 
 /// A triple in the order of the names.
@@ -33,31 +42,26 @@ impl PartialOrd for Key {
     }
 }
 
-/// The lines in which two books differ: `-` holds by the first alone, `+` by the second alone. An
-/// error says why they cannot be compared.
-pub fn differences(left: &Holding, right: &Holding) -> Result<String, String> {
-    let is_same = match left.kind {
-        Kind::Sheets(_) => left.kind == right.kind,
-        _ => left.kind.number() == right.kind.number(),
+/// The lines in which two books differ: `-` holds by the first alone, `+` by the second alone; without
+/// reflexive lines that neither says itself, if these are left out. An error says why they cannot be
+/// compared.
+pub fn differences(
+    left: &Holding,
+    right: &Holding,
+    without_reflexive: bool,
+) -> Result<String, String> {
+    let (left_kind, right_kind) = (left.head.kind, right.head.kind);
+    let is_same = match left_kind {
+        Kind::Sheets(_) => left_kind == right_kind,
+        _ => left_kind.number() == right_kind.number(),
     };
     if !is_same {
-        let kinds = format!(
-            "{} says `{}`, {} says `{}`",
-            left.file,
-            left.kind.line(),
-            right.file,
-            right.kind.line()
-        );
+        let (one, other) = (left.head.line(), right.head.line());
+        let kinds = format!("{} says `{one}`, {} says `{other}`", left.file, right.file);
         return Err(format!("{kinds}: books of two kinds cannot be compared\n"));
     }
-    let mut both: BTreeMap<Key, [u64; 2]> = BTreeMap::new();
-    for (at, book) in [left, right].into_iter().enumerate() {
-        for (triple, value) in &book.rows {
-            both.entry(Key(triple.clone())).or_default()[at] = *value;
-        }
-    }
     // `always` is told by its years where the two books have not the same.
-    let same_years = left.kind == right.kind;
+    let same_years = left_kind == right_kind;
     let shown = |kind: Kind, value: u64| {
         if same_years {
             kind.written(value)
@@ -66,16 +70,30 @@ pub fn differences(left: &Holding, right: &Holding) -> Result<String, String> {
         }
     };
     let mut lines = Vec::new();
-    for (Key(triple), [mine, yours]) in &both {
-        let only_left = left.kind.only(*mine, right.kind, *yours);
-        let only_right = right.kind.only(*yours, left.kind, *mine);
-        for (mark, kind, only) in [("-", left.kind, only_left), ("+", right.kind, only_right)] {
+    for (Key(triple), [mine, yours]) in &by_both(left, right, without_reflexive) {
+        let only_left = left_kind.only(*mine, right_kind, *yours);
+        let only_right = right_kind.only(*yours, left_kind, *mine);
+        for (mark, kind, only) in [("-", left_kind, only_left), ("+", right_kind, only_right)] {
             if let Some(value) = only {
                 lines.push([&[mark.to_string()], &triple[..], &[shown(kind, value)]].concat());
             }
         }
     }
     Ok(written(left, right, &lines))
+}
+
+/// What each of the two books has of every triple; 0 is nothing.
+fn by_both(left: &Holding, right: &Holding, without_reflexive: bool) -> BTreeMap<Key, [u64; 2]> {
+    let mut both: BTreeMap<Key, ([u64; 2], bool)> = BTreeMap::new();
+    for (at, book) in [left, right].into_iter().enumerate() {
+        for Held { triple, value, is_bare } in &book.rows {
+            let (values, all_bare) = both.entry(Key(triple.clone())).or_insert(([0; 2], true));
+            values[at] = *value;
+            *all_bare &= *is_bare;
+        }
+    }
+    both.retain(|_, (_, all_bare)| !(without_reflexive && *all_bare));
+    both.into_iter().map(|(key, (values, _))| (key, values)).collect()
 }
 
 fn written(left: &Holding, right: &Holding, lines: &[Vec<String>]) -> String {

@@ -23,7 +23,7 @@ fn other_form(bytes: &[u8]) -> Option<&'static str> {
     let nulls = bytes.iter().take(64).filter(|byte| **byte == 0).count();
     match bytes {
         [0xFF, 0xFE, ..] | [0xFE, 0xFF, ..] => Some(UTF_16),
-        [1, 0, 4, ..] => {
+        [1, 0, 4 | 5, ..] => {
             Some("these are the bytes of a book, not a text: `fitting text FILE` shows them")
         }
         [0x1F, 0x8B, ..] | [b'P', b'K', 3, 4, ..] => {

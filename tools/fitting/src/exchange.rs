@@ -4,6 +4,7 @@ use crate::annotation::Kind;
 use crate::calls::{Calls, Row};
 use crate::csv::{self, Record};
 use crate::encoding;
+use crate::head::Head;
 use crate::input::Source;
 use crate::listing;
 use crate::names::{Names, Sort};
@@ -41,10 +42,10 @@ impl Form {
     }
 }
 
-/// The kind that words such as `years from 2000` say; an error is in plain words.
-pub fn kind(said: &str) -> Result<Kind, String> {
+/// What words such as `years from 2000` say of a book; an error is in plain words.
+pub fn head(said: &str) -> Result<Head, String> {
     let placed = placed(&format!("kind {said}"), 0)?;
-    statement::kind(&mut Cursor::new(&placed)).map_err(|fault| fault.words)
+    statement::head(&mut Cursor::new(&placed)).map_err(|fault| fault.words)
 }
 
 /// What words such as `2000-2002, 2005` say in a book of this kind.
@@ -67,14 +68,14 @@ fn placed(text: &str, line: usize) -> Result<Vec<Placed>, String> {
 pub fn import_list(
     calls: &dyn Calls,
     source: &Source,
-    kind: Kind,
+    head: Head,
     value: u64,
     base: &str,
 ) -> Result<String, String> {
     let mut names = Names::default();
-    let rows = ntriples::read(calls, kind.number(), value, &source.bytes, base, &mut names);
+    let rows = ntriples::read(calls, head.kind.number(), value, &source.bytes, base, &mut names);
     match rows {
-        Ok(rows) => text_of(kind, &names, &rows),
+        Ok(rows) => text_of(head, &names, &rows),
         Err(ntriples::Refused::Names(words)) => Err(format!("{}: {words}\n", source.name)),
         Err(ntriples::Refused::Call(refusal)) => {
             let before = source.bytes.get(..refusal.place).unwrap_or(&source.bytes);
@@ -85,7 +86,14 @@ pub fn import_list(
             let behind = String::from_utf8_lossy(&source.bytes[before.len()..]).into_owned();
             let shown: String =
                 behind.lines().next().unwrap_or("").chars().take(200).map(seen).collect();
-            Err(refusal::written(&source.name, Some(line), Some(&shown), Refused::List, refusal))
+            Err(refusal::written(
+                &source.name,
+                Some(line),
+                Some(&shown),
+                None,
+                Refused::List,
+                refusal,
+            ))
         }
     }
 }
@@ -100,22 +108,22 @@ fn seen(letter: char) -> char {
 }
 
 /// A spreadsheet's table as a text. An error is what to print.
-pub fn import_table(source: &Source, said: Option<Kind>) -> Result<String, String> {
-    let (kind, names, rows) =
+pub fn import_table(source: &Source, said: Option<Head>) -> Result<String, String> {
+    let (head, names, rows) =
         read_table(&source.bytes, said).map_err(|faults| faults.written(&source.name))?;
-    text_of(kind, &names, &rows)
+    text_of(head, &names, &rows)
 }
 
-/// A table's kind, names and rows.
-fn read_table(bytes: &[u8], said: Option<Kind>) -> Result<(Kind, Names, Vec<Row>), Faults> {
+/// A table's head, names and rows.
+fn read_table(bytes: &[u8], said: Option<Head>) -> Result<(Head, Names, Vec<Row>), Faults> {
     let at = |(line, words): csv::Wrong| Fault::new(line, words);
     let mut records =
         csv::read(encoding::decoded(bytes).map_err(Faults::one)?).map(|record| record.map_err(at));
     let first = records.next().transpose().map_err(Faults::one)?;
-    let kind = head(first.as_ref(), said).map_err(Faults::one)?;
+    let head = first_line(first.as_ref(), said).map_err(Faults::one)?;
     let (mut names, mut rows, mut faults) = (Names::default(), Vec::new(), Faults::default());
     for record in records {
-        match record.and_then(|record| row(&record, &mut names, kind)) {
+        match record.and_then(|record| row(&record, &mut names, head.kind)) {
             Ok(row) => rows.push(row),
             Err(fault) => faults.add(fault),
         }
@@ -123,11 +131,11 @@ fn read_table(bytes: &[u8], said: Option<Kind>) -> Result<(Kind, Names, Vec<Row>
     if faults.count() > 0 {
         return Err(faults);
     }
-    Ok((kind, names, rows))
+    Ok((head, names, rows))
 }
 
-/// The kind that a table's first line says, or the caller.
-fn head(first: Option<&Record>, said: Option<Kind>) -> Result<Kind, Fault> {
+/// What a table's first line says of the book, or the caller.
+fn first_line(first: Option<&Record>, said: Option<Head>) -> Result<Head, Fault> {
     let wanted = "the first line of the table is: subject,relation,object,years from 2000";
     let Some(Record { line, cells }) = first else {
         return Err(Fault::new(1, wanted));
@@ -139,13 +147,14 @@ fn head(first: Option<&Record>, said: Option<Kind>) -> Result<Kind, Fault> {
     if [subject.as_str(), relation, object] != ["subject", "relation", "object"] {
         return Err(Fault::new(*line, wanted));
     }
-    match (kind(when), said) {
-        (Ok(kind), None) => Ok(kind),
-        (Ok(kind), Some(said)) if kind == said => Ok(kind),
-        (Ok(kind), Some(_)) => {
-            Err(Fault::new(*line, format!("the table says `{}`, and --kind another", kind.words())))
+    match (head(when), said) {
+        (Ok(head), None) => Ok(head),
+        (Ok(head), Some(said)) if head == said => Ok(head),
+        (Ok(head), Some(_)) => {
+            Err(Fault::new(*line, format!("the table says `{}`, and --kind another", head.words())))
         }
         (Err(_), Some(said)) => Ok(said),
+        (Err(words), None) if when.contains(" rules") => Err(Fault::new(*line, words)),
         (Err(_), None) => Err(Fault::new(
             *line,
             format!("`{when}` does not say the kind: write `years from 2000` there, or say --kind"),
@@ -183,7 +192,7 @@ fn one_word(cell: &str) -> String {
 }
 
 /// Rows as a text, in the order of the names.
-fn text_of(kind: Kind, names: &Names, rows: &[Row]) -> Result<String, String> {
+fn text_of(head: Head, names: &Names, rows: &[Row]) -> Result<String, String> {
     let mut ordered = names.in_order();
     let mut again = |term: u16| match value::of(term) {
         Some(_) => Some(term),
@@ -197,25 +206,25 @@ fn text_of(kind: Kind, names: &Names, rows: &[Row]) -> Result<String, String> {
         moved.push(Row { triple: [subj, pred, obj], value: *value });
     }
     moved.sort_by_key(|row| row.triple);
-    listing::listing(kind, &ordered, &moved, None).ok_or_else(|| "a term has no name\n".to_string())
+    listing::listing(head, &ordered, &moved, None).ok_or_else(|| "a term has no name\n".to_string())
 }
 
 /// Rows as a spreadsheet's table; what the book's own lines do not say is marked in a fifth cell.
 pub fn export_table(
-    kind: Kind,
+    head: Head,
     names: &Names,
     rows: &[(Row, listing::Source)],
 ) -> (String, Vec<String>) {
     let marks = rows.iter().any(|(_, source)| *source != listing::Source::Stated);
-    let mut head =
-        vec!["subject".to_string(), "relation".to_string(), "object".to_string(), kind.words()];
-    head.extend(marks.then(|| "note".to_string()));
-    let mut records = vec![head];
+    let mut first =
+        vec!["subject".to_string(), "relation".to_string(), "object".to_string(), head.words()];
+    first.extend(marks.then(|| "note".to_string()));
+    let mut records = vec![first];
     let mut formulas = Vec::new();
     for (row, source) in rows {
         let mut cells = listing::terms(names, row).map(Vec::from).unwrap_or_default();
         formulas.extend(cells.iter().filter(|cell| csv::looks_like_formula(cell)).cloned());
-        cells.push(kind.written(row.value));
+        cells.push(head.kind.written(row.value));
         cells.extend(marks.then(|| source.words().to_string()));
         records.push(cells);
     }

@@ -14,6 +14,7 @@ pub mod diff;
 pub mod encoding;
 pub mod exchange;
 pub mod fields;
+pub mod head;
 pub mod input;
 pub mod letters;
 pub mod listing;

@@ -1,11 +1,12 @@
 //! What a line is made of: its words one by one, terms, when it holds; and the lines of a book.
 
-use crate::annotation::Kind;
+use crate::annotation::{whole_number, Kind};
+use crate::head::{Head, BASIC};
 use crate::names::{Names, Sort, FIVE_WORDS};
 use crate::sheets::Sheets;
 use crate::words::{Placed, Word};
 use crate::Fault;
-use crate::{slips, value};
+use crate::{near, slips, value};
 
 /// Words that are never names, with those of `COMPARES`.
 const RESERVED: [&str; 7] = ["kind", "ask", "and", "or", "where", "during", "always"];
@@ -204,7 +205,7 @@ pub fn when(cursor: &mut Cursor, kind: Kind) -> Result<Option<When>, Fault> {
         return Ok(Some(When::Variable(name.clone())));
     }
     let line = cursor.line();
-    let (items, side_by_side) = list(cursor)?;
+    let (items, side_by_side) = list(cursor, None)?;
     if let (Kind::Sheets(_), Some((left, right))) = (kind, side_by_side) {
         let between = "stands `+` if both are needed, a comma if either will do";
         return Err(Fault::new(line, format!("between {left} and {right} {between}")));
@@ -232,12 +233,16 @@ fn judge_item(item: &str) -> Result<(), String> {
 /// The words of a list, and the first two that stand side by side with nothing between them.
 type List<'a> = (Vec<&'a str>, Option<(&'a str, &'a str)>);
 
-/// The words up to the end of a list; a comma stands between two of them or not.
-fn list<'a>(cursor: &mut Cursor<'a>) -> Result<List<'a>, Fault> {
+/// The words up to the end of a list; a comma stands between two of them or not. A list can end at a
+/// word of its own, which with a comma before it is one of the list.
+fn list<'a>(cursor: &mut Cursor<'a>, end: Option<&str>) -> Result<List<'a>, Fault> {
     let mut items: Vec<&str> = Vec::new();
     let mut side_by_side = None;
     let mut is_apart = true;
     while let Some(item) = list_item(cursor, 0) {
+        if !is_apart && end == Some(item) {
+            break;
+        }
         if let Some(last) = items.last().filter(|_| !is_apart) {
             let plus = last.ends_with('+') || item.starts_with('+');
             side_by_side = side_by_side.or((!plus).then_some((*last, item)));
@@ -303,17 +308,15 @@ pub fn nothing_left(cursor: &Cursor) -> Result<(), Fault> {
     }
 }
 
-/// The line that says the book's kind. Whether the first year is allowed is for the library to say.
-pub fn kind(cursor: &mut Cursor) -> Result<Kind, Fault> {
+/// The line that says the book's kind, and its rule set if it is not the first. Whether the first year
+/// and the rule set are allowed is for the library to say.
+pub fn head(cursor: &mut Cursor) -> Result<Head, Fault> {
     let line = cursor.line();
     cursor.word();
     let kinds = "the kinds are: years from 2000, sheets maker, importer, degree, strict";
     let kind = match cursor.word() {
         Some(word) if word.is("years") => Kind::Years { base: first_year(cursor)? },
-        Some(word) if word.is("sheets") => {
-            let names = list(cursor)?.0;
-            Kind::Sheets(Sheets::of(&names).map_err(|words| Fault::new(line, words))?)
-        }
+        Some(word) if word.is("sheets") => Kind::Sheets(sheets(cursor)?),
         Some(word) if word.is("degree") => Kind::Degree,
         Some(word) if word.is("strict") => Kind::Strict,
         Some(word) => {
@@ -321,15 +324,52 @@ pub fn kind(cursor: &mut Cursor) -> Result<Kind, Fault> {
         }
         None => return Err(Fault::new(line, format!("the kind is missing; {kinds}"))),
     };
+    let rules = rules(cursor)?;
     nothing_left(cursor)?;
-    Ok(kind)
+    Ok(Head { kind, rules })
+}
+
+/// The sheets that a book names, up to its rule set.
+fn sheets(cursor: &mut Cursor) -> Result<Sheets, Fault> {
+    let line = cursor.line();
+    let names = list(cursor, Some(RULES))?.0;
+    let at = |words: String| Fault::new(line, words);
+    let is_number = |name: &&str| whole_number::<u64>(name).is_some();
+    if names.windows(2).any(|two| two[0] == RULES && is_number(&two[1])) {
+        let words = "the sheets come first, and no comma before `rules`: kind sheets maker, importer rules 2";
+        return Err(at(words.to_string()));
+    }
+    Sheets::of(&names).map_err(at)
+}
+
+/// The word for a rule set in a book's first line.
+const RULES: &str = "rules";
+
+/// The rule set, if the line says one.
+fn rules(cursor: &mut Cursor) -> Result<u8, Fault> {
+    if let Some(Word::Plain(text)) = cursor.peek(0).filter(|word| !word.is(RULES)) {
+        let meant = near::meant(text, [RULES].into_iter()).is_some();
+        let words = format!("`{text}` is too much in this line; is `rules 2` meant?");
+        return if meant { Err(cursor.fault(words)) } else { Ok(BASIC) };
+    }
+    if cursor.take(RULES).is_none() {
+        return Ok(BASIC);
+    }
+    let missing = cursor.fault("behind `rules` stands the number of a rule set, 1 or 2");
+    match cursor.word() {
+        Some(Word::Plain(number)) => whole_number(number).ok_or_else(|| {
+            let words = format!("`{number}` is no rule set: there are rules 1 and rules 2");
+            Fault::new(missing.line, words)
+        }),
+        _ => Err(missing),
+    }
 }
 
 fn first_year(cursor: &mut Cursor) -> Result<u16, Fault> {
     let fault = cursor.fault("the first year is missing or no year: kind years from 2000");
     cursor.take("from").ok_or_else(|| fault.clone())?;
     match cursor.word() {
-        Some(Word::Plain(year)) => crate::annotation::whole_number(year).ok_or(fault),
+        Some(Word::Plain(year)) => whole_number(year).ok_or(fault),
         _ => Err(fault),
     }
 }

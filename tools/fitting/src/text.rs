@@ -1,18 +1,16 @@
 //! A whole text: the book's lines and the questions.
 
-use crate::annotation::Kind;
 use crate::encoding;
 use crate::fields::Fields;
+use crate::head::Head;
 use crate::mentions::Mentions;
 use crate::names::Names;
 use crate::question::{question, Question};
-use crate::statement::{in_capitals, kind, row, Cursor};
+use crate::statement::{head, in_capitals, row, Cursor};
 use crate::words::{words, Placed, Word, MOST_WORDS, TOO_LONG};
 use crate::{Fault, Faults};
 use std::collections::HashMap;
 
-const HEAD: u8 = 1;
-const EDITION: u8 = 1;
 const ROW: u8 = 3;
 
 /// Far more than anyone asks; so many take little memory.
@@ -21,7 +19,7 @@ const MOST_QUESTIONS: usize = 10_000;
 pub struct Text {
     pub lines: Lines,
     /// Not there in a text that says nothing.
-    pub kind: Option<Kind>,
+    pub head: Option<Head>,
     /// Numbered in the order of the names, whichever line names them first.
     pub names: Names,
     pub book: Fields,
@@ -74,7 +72,7 @@ pub fn read(bytes: &[u8]) -> Result<Text, Faults> {
 fn read_lines(lines: Lines, names: Names) -> Result<Text, Faults> {
     let mut text = Text {
         lines: Lines::default(),
-        kind: None,
+        head: None,
         names,
         book: Fields::default(),
         stated: HashMap::new(),
@@ -91,7 +89,7 @@ fn read_lines(lines: Lines, names: Names) -> Result<Text, Faults> {
                 if !statement.goes_on(&words[0]) {
                     finish(&mut text, std::mem::take(&mut statement), &mut faults);
                     // Without a kind no other line can be read.
-                    if text.kind.is_none() && faults.count() > 0 {
+                    if text.head.is_none() && faults.count() > 0 {
                         return Err(faults);
                     }
                 }
@@ -165,12 +163,12 @@ fn add(text: &mut Text, words: &[Placed]) -> Result<(), Fault> {
     };
     let line = cursor.line();
     if first.is("kind") {
-        let kind = kind(&mut cursor)?;
-        text.kind = Some(kind);
-        text.book.add(&head(kind, line));
+        let head = head(&mut cursor)?;
+        text.head = Some(head);
+        text.book.add(&head.field(line));
         return Ok(());
     }
-    let Some(kind) = text.kind else {
+    let Some(Head { kind, .. }) = text.head else {
         let says = "the first line says the kind, such as: kind years from 2000";
         return Err(Fault::new(line, in_capitals(first).unwrap_or(says.to_string())));
     };
@@ -198,11 +196,6 @@ fn add(text: &mut Text, words: &[Placed]) -> Result<(), Fault> {
     let stated = text.stated.entry(triple).or_insert(value);
     *stated = kind.join(*stated, value);
     Ok(())
-}
-
-fn head(kind: Kind, line: usize) -> Fields {
-    let value = [&[EDITION, kind.number()][..], &kind.base().to_be_bytes()].concat();
-    Fields::one(HEAD, &value, line)
 }
 
 fn row_field(triple: [u16; 3], value: u64, line: usize) -> Fields {

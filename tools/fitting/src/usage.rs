@@ -44,13 +44,15 @@ notes on what looks like a slip of the pen. Prints nothing if there is nothing.
     (
         "close",
         "\
-usage: fitting close FILE [--quiet]
+usage: fitting close FILE [--no-reflexive] [--quiet]
 
 Prints the book with what follows from it, in the order of the names. The
 listing is a text itself. `# follows` marks rows that are not in the book,
 `# in the book for less` those that hold for more than it says.
 
-  --quiet   leave the notes out
+  --no-reflexive   leave out what follows of the form A within A, A implies A; a
+                   book that says `rules 2` has many of these
+  --quiet          leave the notes out
 ",
     ),
     (
@@ -69,25 +71,27 @@ Answers the questions of the text, one after another, as answers are found.
     (
         "page",
         "\
-usage: fitting page FILE [--looks N] [--quiet] > PAGE.html
+usage: fitting page FILE [--looks N] [--no-reflexive] [--quiet] > PAGE.html
 
 Writes one HTML page: each subject with its lines, years as strips, what is in
 the book apart from what follows, and the questions with their answers. The
 page has no script and needs no other file.
 
-  --looks N   as for ask
-  --quiet     leave the notes out
+  --looks N        as for ask
+  --no-reflexive   as for close; the questions are asked of the whole book
+  --quiet          leave the notes out
 ",
     ),
     (
         "diff",
         "\
-usage: fitting diff A B [--quiet]
+usage: fitting diff A B [--no-reflexive] [--quiet]
 
 Closes both books and prints what holds by one and not by the other, by years:
-`-` by A alone, `+` by B alone.
+`-` by A alone, `+` by B alone. Each is closed by its own rule set.
 
-  --quiet   leave the notes out
+  --no-reflexive   as for close, where neither book says the line itself
+  --quiet          leave the notes out
 ",
     ),
     (
@@ -99,8 +103,9 @@ usage: fitting import FILE.nt --kind KIND --when WHEN [--base IRI]
 Prints a makers' list or a spreadsheet's table as a text.
 
   --kind KIND   the book's kind: \"years from 2000\", degree, strict, \"sheets
-                maker, importer\". A
-                table says it in its first line, behind subject, relation, object
+                maker, importer\", with its rule set if it has another:
+                \"years from 2000 rules 2\". A table says it in its first line,
+                behind subject, relation, object
   --when WHEN   when the lines of the list hold: \"2001-2005, 2007\", always
   --base IRI    names that begin so are written without it (urn:fitting:)
   --from FORM   nt or csv, where the file's name does not say it
@@ -109,15 +114,17 @@ Prints a makers' list or a spreadsheet's table as a text.
     (
         "export",
         "\
-usage: fitting export FILE --to nt --when WHEN [--closed] [--base IRI]
-       fitting export FILE --to csv [--when WHEN] [--closed]
+usage: fitting export FILE --to nt --when WHEN [--closed [--no-reflexive]]
+                           [--base IRI]
+       fitting export FILE --to csv [--when WHEN] [--closed [--no-reflexive]]
 
 Prints the book's lines as N-Triples or as a spreadsheet's table.
 
   --to FORM     nt or csv
   --when WHEN   only lines that hold in all of that: 2005, \"2001-2003\", 700; or
                 any. N-Triples have no years, so it must be said for them
-  --closed      what follows from the book too
+  --closed      what follows from the book too; --no-reflexive, which wants
+                --closed, leaves out what is of the form A within A, A implies A
   --base IRI    what a plain name's IRI begins with (urn:fitting:)
 ",
     ),

@@ -4,7 +4,7 @@ mod common;
 use common::*;
 use fitting::annotation::Kind;
 use fitting::answers::Asking;
-use fitting::calls::{Answer, Asked, Calls, NameList, Refusal, Table};
+use fitting::calls::{Answer, Asked, Calls, NameList, Refusal, RuleSet, Table};
 use std::cell::RefCell;
 use std::io::{self, Write};
 
@@ -47,7 +47,7 @@ impl Calls for Slow {
     fn read(&self, _: &[u8]) -> Result<fitting::calls::Book, Refusal> {
         unreachable!()
     }
-    fn close(&self, _: &Table) -> Result<Table, Refusal> {
+    fn close(&self, _: RuleSet, _: &Table) -> Result<Table, Refusal> {
         unreachable!()
     }
     fn read_triples(&self, _: u8, _: u64, _: &[u8]) -> Result<(Table, NameList), Refusal> {

@@ -28,6 +28,15 @@ fn sheets_give_their_listing_and_answers() {
     assert_eq!(notes(&text), Vec::<String>::new());
 }
 
+/// By the second rule set classes lie within themselves, and relations imply themselves.
+#[test]
+fn the_importers_book_gives_its_listing_and_answers() {
+    let text = example("rules2.fit");
+    assert_eq!(close(&text), (example("rules2.close.txt"), true));
+    assert_eq!(ask(&text), (example("rules2.ask.txt"), true));
+    assert_eq!(notes(&text), Vec::<String>::new());
+}
+
 /// Known for 2000 to 2002 and 2005 to 2007: no row and no answer has the years between.
 #[test]
 fn the_two_runs_of_the_example_stay_two() {
@@ -42,7 +51,7 @@ fn the_two_runs_of_the_example_stay_two() {
 /// A listing is a text of its own: closed again it is the same, with nothing that follows.
 #[test]
 fn a_listing_reads_back_as_a_closed_book() {
-    for name in ["lamps.fit", "degrees.fit", "sheets.fit"] {
+    for name in ["lamps.fit", "degrees.fit", "sheets.fit", "rules2.fit"] {
         let (listing, _) = close(&example(name));
         let without: Vec<&str> =
             listing.lines().map(|line| line.split("  #").next().unwrap().trim_end()).collect();

@@ -23,6 +23,8 @@ fn the_stored_page_of_the_example() {
     assert_eq!(printed.text(), example("sheets.page.html"));
     let printed = command("page degrees.fit", &[example("degrees.fit").as_bytes()]);
     assert_eq!(printed.text(), example("degrees.page.html"));
+    let printed = command("page rules2.fit", &[example("rules2.fit").as_bytes()]);
+    assert_eq!(printed.text(), example("rules2.page.html"));
 }
 
 /// Names, texts, variables and questions made of markup give the same tags as harmless ones.

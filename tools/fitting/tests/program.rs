@@ -57,6 +57,11 @@ fn wrong_calls_are_2_and_refusals_1() {
     failed(&["help", "clsoe"], 2, "fitting: there is no command clsoe");
     failed(&["diff", "-", "-"], 2, "fitting: standard input is read once");
     failed(&["export", "examples/lamps.fit", "--to", "nt"], 2, "fitting: N-Triples have no years");
+    failed(
+        &["export", "examples/lamps.fit", "--to", "csv", "--no-reflexive"],
+        2,
+        "fitting: --no-reflexive leaves out lines that follow",
+    );
     failed(&["close", "examples/none.fit"], 1, "examples/none.fit: cannot be read:");
     failed(&["close", "examples"], 1, "examples: cannot be read:");
     failed(&["close", "examples/p1.book"], 1, "examples/p1.book:1: these are the bytes of a book, not a text: `fitting text FILE` shows them");

@@ -26,10 +26,18 @@ fn question(kind: &str, question: &str, lines: &[&str]) {
     assert!(checked.err.contains(lines[0]), "{}", checked.err);
 }
 
+/// The bytes of a book are refused as that, and this is said of them.
+fn bytes(book: &[u8], number: u32, place: usize, says: &str) {
+    let printed = command("text t", &[book]);
+    let words = words(number);
+    let said = format!("t.fit: {says}\n    (refused {number}, field at byte {place}: {words})\n");
+    assert_eq!((printed.err, printed.out.len(), printed.code), (said, 0, 1), "{book:?}");
+}
+
 #[test]
 fn number_2() {
     let says = "a text has one line that says the kind, and it comes first: kind years from 2000";
-    let words = "no head first (empty book included), length not 4, second head";
+    let words = "no head first (empty book included), length neither 4 nor 5 or not the edition's, second head";
     let nothing = format!("t.fit: {says}\n    (refused 2, field at byte 0: {words})\n");
     assert_eq!(close("# nothing\n"), (nothing, false));
     let second = "kind years from 2000\nlamp is led 2000\n\nkind degree\nlamp is led 3\n";
@@ -53,6 +61,16 @@ fn number_5() {
             &[advice, &format!("    {line}"), "    (refused 5, field at byte 0: base year)"],
         );
     }
+}
+
+#[test]
+fn number_36() {
+    let line = "kind degree rules 3";
+    let advice = "t.fit:1: there are two rule sets, 1 and 2: write rules 2 behind the kind, or leave it out for rule set 1";
+    book(
+        &format!("{line}\nlamp is led 700\n"),
+        &[advice, &format!("    {line}"), "    (refused 36, field at byte 0: rule set unknown)"],
+    );
 }
 
 #[test]
@@ -179,10 +197,60 @@ fn numbers_21_and_22() {
     assert!(ask(&format!("kind degree\nlamp is led always\n{at_the_end}")).1);
 }
 
+/// The head of a book of degrees, and a row of it, as bytes.
+const DEGREE: [u8; 7] = [1, 0, 4, 1, 3, 0, 0];
+const ROW: [u8; 17] = [3, 0, 14, 0, 10, 0, 0, 0, 11, 0, 0, 0, 0, 0, 0, 0, 1];
+
+/// Bytes have no lines to write otherwise: what is said of them is true of bytes.
+#[test]
+fn numbers_of_a_head_that_is_bytes() {
+    let head =
+        "a book begins with its head (tag 1), which is 4 long in edition 1 and 5 long in edition 2";
+    for wrong in [
+        &[][..],
+        &ROW,
+        &[1, 0, 3, 1, 3, 0],
+        &[1, 0, 6, 2, 3, 0, 0, 1, 0],
+        &[1, 0, 5, 1, 3, 0, 0, 1],
+        &[1, 0, 4, 2, 3, 0, 0],
+    ] {
+        bytes(wrong, 2, 0, head);
+    }
+    bytes(&[DEGREE, DEGREE].concat(), 2, 7, "a book has one head, and this is a second");
+    let edition = "there are two editions of books, 1 and 2, and the head says another";
+    bytes(&[1, 0, 5, 3, 3, 0, 0, 1], 3, 0, edition);
+    let rules = "there are two rule sets, 1 and 2, and the head says another";
+    bytes(&[1, 0, 5, 2, 3, 0, 0, 3], 36, 0, rules);
+    let year = "the first year of a book is from 1900 to 2100, and 0 in a kind without years";
+    bytes(&[1, 0, 4, 1, 3, 7, 208], 5, 0, year);
+    bytes(&[1, 0, 4, 1, 1, 0, 0], 5, 0, year);
+    bytes(&[1, 0, 4, 1, 2, 0, 0], 4, 0, "these are not the bytes of a book");
+}
+
+#[test]
+fn numbers_of_rows_that_are_bytes() {
+    bytes(&[&DEGREE[..], &ROW[..16]].concat(), 1, 7, "the bytes of the book are cut short");
+    let none = [&ROW[..16], &[0]].concat();
+    let holds =
+        "a row holds to a degree from 1 to 1000, or in at least one year or combination of sheets";
+    for head in [DEGREE, [1, 0, 4, 1, 1, 7, 208], [1, 0, 4, 1, 5, 0, 0]] {
+        bytes(&[&head[..], &none].concat(), 10, 7, holds);
+    }
+    let rows: Vec<u8> = (5..1030_u16)
+        .flat_map(|name| [&ROW[..3], &name.to_be_bytes(), &ROW[5..]].concat())
+        .collect();
+    let room = "there is room for 1,024 rows, and this row would be one more";
+    bytes(&[&DEGREE[..], &rows].concat(), 12, 7 + 17 * 1024, room);
+    let long = command("text t", &[&[0; 65_536]]);
+    let said =
+        "t.fit: a book is at most 65,535 bytes long\n    (refused 13: book over 65,535 bytes)\n";
+    assert_eq!((long.err.as_str(), long.code), (said, 1));
+}
+
 /// Every number of the document has its words.
 #[test]
 fn numbers_have_words() {
-    for number in (0..=24).chain([26, 27, 28, 39]) {
+    for number in (0..=24).chain([26, 27, 28, 36, 39]) {
         assert!(!words(number).starts_with("a number that"), "{number}");
     }
     assert!(words(99).starts_with("a number that"));

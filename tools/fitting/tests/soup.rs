@@ -71,7 +71,8 @@ fn group(dice: &mut Dice, kind: &str, depth: usize) -> String {
 /// Lines and questions, with a word lost or put in now and then.
 fn soup(dice: &mut Dice) -> String {
     let kind = dice.one(&["years from 2000", "sheets maker, importer", "degree", "strict"]);
-    let mut lines = vec![format!("kind {kind}")];
+    let rules = dice.one(&["", " rules 2", " rules 2", " rules 1", " rules 3", " rules"]);
+    let mut lines = vec![format!("kind {kind}{rules}")];
     for _ in 0..dice.below(6) {
         lines.push(triple(dice, kind, false));
     }
@@ -115,10 +116,11 @@ fn what_is_accepted_is_in_the_documents_shape() {
             }
         }
     }
-    let from_text = [0, 2, 5, 9, 10, 12, 13, 19, 20, 21, 22];
+    let from_text = [0, 2, 5, 9, 10, 12, 13, 19, 20, 21, 22, 36];
     assert!(numbers.keys().all(|number| from_text.contains(number)), "{numbers:?}");
     let dealt = |number: u32| numbers.get(&number).copied().unwrap_or(0);
     assert!(dealt(0) > 1_000 && dealt(21) > 100 && dealt(22) > 10, "{numbers:?}");
+    assert!(dealt(36) > 100, "{numbers:?}");
 }
 
 /// Every command ends with one of the exit codes, and says something where it refuses.

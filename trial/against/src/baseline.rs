@@ -1,5 +1,6 @@
 //! A plain closure with hash maps, to measure the proved one beside: a queue of triples that rose,
-//! each joined with its partners through indexes for every place it can take in a rule.
+//! each joined with its partners through indexes for every place it can take in a rule. In either rule
+//! set; a link of a term to itself is no partner, since it gives nothing that is not there.
 
 use std::collections::HashMap;
 use trial::annotation;
@@ -61,7 +62,7 @@ impl Graph {
 
     /// The triple as the (X D Y) of 2b, 4 and 5.
     fn as_use(&mut self, (x, d, y): Triple, ann: u64) {
-        for e in self.objects(d, SP) {
+        for e in self.objects(d, SP).into_iter().filter(|e| *e != d) {
             let both = self.and(ann, self.of(d, SP, e));
             self.raise((x, e, y), both);
             self.typed(e, x, y, both);
@@ -83,17 +84,23 @@ impl Graph {
 
     /// The triple as either premise of 2a or 3a.
     fn as_link(&mut self, (a, pred, b): Triple, ann: u64) {
-        for c in self.objects(b, pred) {
+        if a == b {
+            return;
+        }
+        for c in self.objects(b, pred).into_iter().filter(|c| *c != b) {
             let both = self.and(ann, self.of(b, pred, c));
             self.raise((a, pred, c), both);
         }
-        for z in self.subjects(pred, a) {
+        for z in self.subjects(pred, a).into_iter().filter(|z| *z != a) {
             let both = self.and(ann, self.of(z, pred, a));
             self.raise((z, pred, b), both);
         }
     }
 
     fn as_sub_property(&mut self, (d, _, e): Triple, ann: u64) {
+        if d == e {
+            return;
+        }
         for (x, y) in self.uses(d) {
             let both = self.and(ann, self.of(x, d, y));
             self.raise((x, e, y), both);
@@ -103,7 +110,7 @@ impl Graph {
 
     fn as_typing(&mut self, (a, pred, b): Triple, ann: u64) {
         let mut properties = vec![(a, annotation::top(self.kind))];
-        for d in self.subjects(SP, a) {
+        for d in self.subjects(SP, a).into_iter().filter(|d| *d != a) {
             properties.push((d, self.of(d, SP, a)));
         }
         for (d, link) in properties {
@@ -114,13 +121,31 @@ impl Graph {
         }
     }
 
+    /// The triple as the one premise of rule set 2's lines.
+    fn alone(&mut self, (s, pred, o): Triple, ann: u64) {
+        self.raise((pred, SP, pred), ann);
+        let (of_subject, of_object) = match pred {
+            SP => (Some(SP), Some(SP)),
+            SC => (Some(SC), Some(SC)),
+            TYPE => (None, Some(SC)),
+            DOM | RANGE => (Some(SP), Some(SC)),
+            _ => (None, None),
+        };
+        if let Some(link) = of_subject {
+            self.raise((s, link, s), ann);
+        }
+        if let Some(link) = of_object {
+            self.raise((o, link, o), ann);
+        }
+    }
+
     fn as_class(&mut self, (s, pred, o): Triple, ann: u64) {
         if pred == TYPE {
-            for b in self.objects(o, SC) {
+            for b in self.objects(o, SC).into_iter().filter(|b| *b != o) {
                 let both = self.and(ann, self.of(o, SC, b));
                 self.raise((s, TYPE, b), both);
             }
-        } else {
+        } else if s != o {
             for x in self.subjects(TYPE, s) {
                 let both = self.and(ann, self.of(x, TYPE, s));
                 self.raise((x, TYPE, o), both);
@@ -129,8 +154,8 @@ impl Graph {
     }
 }
 
-/// The rows of the closure, ascending, and how many conclusions were drawn on the way.
-pub fn close(kind: u8, rows: &[Row]) -> (Vec<Row>, u64) {
+/// The rows of the closure under a rule set, ascending, and how many conclusions were drawn on the way.
+pub fn close(kind: u8, rules: u8, rows: &[Row]) -> (Vec<Row>, u64) {
     let mut graph = Graph { kind, ..Graph::default() };
     for (triple, ann) in rows {
         graph.raise(*triple, *ann);
@@ -140,6 +165,9 @@ pub fn close(kind: u8, rows: &[Row]) -> (Vec<Row>, u64) {
         let (subj, pred, obj) = triple;
         let ann = graph.of(subj, pred, obj);
         graph.as_use(triple, ann);
+        if rules == 2 {
+            graph.alone(triple, ann);
+        }
         match pred {
             SP => {
                 graph.as_link(triple, ann);

@@ -46,7 +46,8 @@ pub fn write(seed: u64) -> Result<(), Difference> {
         0 => random.pick(&[1, 1899, 2101, 65_535]),
         _ => books::base(&mut random, kind),
     };
-    let need = 17usize.saturating_mul(count.min(2000)) + 7;
+    let rules = random::rules(&mut random);
+    let need = 17usize.saturating_mul(count.min(2000)) + random.pick(&[7, 8]);
     let room = match random.below(6) {
         0 => need - 1,
         1 => need,
@@ -54,21 +55,24 @@ pub fn write(seed: u64) -> Result<(), Difference> {
         _ => need + random.below(40),
     };
     let out: Vec<u8> = (0..room).map(|_| random.draw() as u8).collect();
-    write_one(kind, base, &lanes, count, &out)
+    write_one((kind, base, rules), &lanes, count, &out)
 }
 
+/// With the kind, the base year and the rule set that the head is to say.
 pub fn write_one(
-    kind: u8,
-    base: u16,
+    head: (u8, u16, u8),
     lanes: &Lanes,
     count: usize,
     out: &[u8],
 ) -> Result<(), Difference> {
+    let (kind, base, rules) = head;
     let (mut proved_out, mut model_out) = (out.to_vec(), out.to_vec());
-    let proved = calls::write(kind, base, lanes, count, &mut proved_out);
-    let model = book::write(kind, base, lanes, count, &mut model_out);
-    let input =
-        || format!("kind {kind}, base {base}, count {count}, {lanes:?}, {} bytes", out.len());
+    let proved = calls::write(kind, base, rules, lanes, count, &mut proved_out);
+    let model = book::write(kind, base, rules, lanes, count, &mut model_out);
+    let input = || {
+        let bytes = out.len();
+        format!("kind {kind}, base {base}, rules {rules}, count {count}, {lanes:?}, {bytes} bytes")
+    };
     same("write: answer", &proved, &model, input)?;
     same("write: bytes", &proved_out, &model_out, input)?;
     if proved.number == 0 {
@@ -76,8 +80,8 @@ pub fn write_one(
         let read = calls::read(&proved_out[..proved.length], &mut back);
         same(
             "write: read back",
-            &(read.number, read.kind, read.base, read.count),
-            &(0, kind, base, count),
+            &(read.number, read.kind, read.base, read.rules, read.count),
+            &(0, kind, base, rules, count),
             input,
         )?;
         same(

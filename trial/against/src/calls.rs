@@ -58,13 +58,13 @@ exports_over_lanes! {
     ) -> u8;
     fn trackvesper_read(
         book: *const u8, book_len: usize; mut;
-        place: *mut usize, kind: *mut u8, base: *mut u16, count: *mut usize
+        place: *mut usize, kind: *mut u8, base: *mut u16, rules: *mut u8, count: *mut usize
     ) -> u8;
     fn trackvesper_write(
-        kind: u8, base: u16; const;
+        kind: u8, base: u16, rules: u8; const;
         count: usize, out: *mut u8, out_len: usize, place: *mut usize, length: *mut usize
     ) -> u8;
-    fn trackvesper_close(kind: u8; mut; count: *mut usize, place: *mut usize) -> u8;
+    fn trackvesper_close(kind: u8, rules: u8; mut; count: *mut usize, place: *mut usize) -> u8;
     fn trackvesper_read_triples(
         kind: u8, a: u64, file: *const u8, file_len: usize; mut;
         terms: *mut u16, terms_len: usize, ends: *mut u16, ends_len: usize,
@@ -132,33 +132,44 @@ pub fn add(kind: u8, lanes: &mut Lanes, mut count: usize, row: Row) -> Added {
 }
 
 pub fn read(book: &[u8], lanes: &mut Lanes) -> ReadOut {
-    let mut out = ReadOut { number: 0, place: 0, kind: 255, base: 255, count: 255 };
+    let mut out = ReadOut { number: 0, place: 0, kind: 255, base: 255, rules: 255, count: 255 };
     let mut place = usize::MAX;
-    let (kind, base, count) = (&mut out.kind, &mut out.base, &mut out.count);
+    let (kind, base) = (&mut out.kind, &mut out.base);
+    let (rules, count) = (&mut out.rules, &mut out.count);
     // SAFETY: the slices are live for the call, the lanes borrowed for it alone, and none overlap.
     let number = unsafe {
         let (bytes, len) = (book.as_ptr(), book.len());
-        over_lanes!(trackvesper_read(bytes, len; lanes as_mut_ptr; &mut place, kind, base, count))
+        over_lanes!(trackvesper_read(
+            bytes, len; lanes as_mut_ptr; &mut place, kind, base, rules, count))
     };
     ReadOut { number: u32::from(number), place: place as u64, ..out }
 }
 
-pub fn write(kind: u8, base: u16, lanes: &Lanes, count: usize, out: &mut [u8]) -> WriteOut {
+pub fn write(
+    kind: u8,
+    base: u16,
+    rules: u8,
+    lanes: &Lanes,
+    count: usize,
+    out: &mut [u8],
+) -> WriteOut {
     let (mut place, mut length) = (usize::MAX, usize::MAX);
     // SAFETY: the slices are live for the call, the output borrowed for it alone, and none overlap.
     let number = unsafe {
         let (bytes, len) = (out.as_mut_ptr(), out.len());
         let (place, length) = (&mut place, &mut length);
-        over_lanes!(trackvesper_write(kind, base; lanes as_ptr; count, bytes, len, place, length))
+        over_lanes!(trackvesper_write(
+            kind, base, rules; lanes as_ptr; count, bytes, len, place, length))
     };
     WriteOut { number: u32::from(number), place: place as u64, length }
 }
 
-pub fn close(kind: u8, lanes: &mut Lanes, mut count: usize) -> CloseOut {
+pub fn close(kind: u8, rules: u8, lanes: &mut Lanes, mut count: usize) -> CloseOut {
     let mut place = usize::MAX;
     // SAFETY: the lanes are live for the call, borrowed for it alone, and do not overlap.
-    let number =
-        unsafe { over_lanes!(trackvesper_close(kind; lanes as_mut_ptr; &mut count, &mut place)) };
+    let number = unsafe {
+        over_lanes!(trackvesper_close(kind, rules; lanes as_mut_ptr; &mut count, &mut place))
+    };
     CloseOut { number: u32::from(number), place: place as u64, count }
 }
 

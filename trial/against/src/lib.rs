@@ -20,7 +20,6 @@ pub mod questions;
 pub mod records;
 pub mod running;
 pub mod runs;
-pub mod slow;
 pub mod stored;
 pub mod stored_lists;
 pub mod stored_questions;

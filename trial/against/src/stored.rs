@@ -56,6 +56,11 @@ fn head(edition: u8, kind: u8, base: u16) -> Vec<u8> {
     [&[1, 0, 4, edition, kind][..], &base.to_be_bytes()].concat()
 }
 
+/// Edition 2's, with the rule set.
+fn long_head(edition: u8, kind: u8, base: u16, rules: u8) -> Vec<u8> {
+    [&[1, 0, 5, edition, kind][..], &base.to_be_bytes(), &[rules]].concat()
+}
+
 fn field(s: u16, p: u16, o: u16, a: u64) -> Vec<u8> {
     let terms = [s, p, o].map(u16::to_be_bytes).concat();
     [&[3, 0, 14][..], &terms, &a.to_be_bytes()].concat()
@@ -81,7 +86,7 @@ pub fn books() -> Vec<Book> {
         ("2: a head of length 5", vec![1, 0, 5, 1, 1, 7, 208, 0], 2, 2, 0),
         ("2: a second head", behind(&[&one, &good]), 2, 2, 24),
         ("2: a second head of another length", behind(&[&[1, 0, 0]]), 2, 2, 7),
-        ("3: edition 2", head(2, 1, 2000), 2, 3, 0),
+        ("3: edition 3", head(3, 1, 2000), 2, 3, 0),
         ("3 before 4 and 5", head(0, 9, 1), 2, 3, 0),
         ("4: kind 0", head(1, 0, 0), 2, 4, 0),
         ("4: kind 2", head(1, 2, 0), 2, 4, 0),
@@ -134,10 +139,61 @@ pub fn books() -> Vec<Book> {
     ]
 }
 
+/// Books of edition 2, and heads on the way to it (C-23).
+pub fn books_of_edition_2() -> Vec<Book> {
+    let good = long_head(2, 1, 2000, 2);
+    let one = field(10, 2, 11, 1);
+    let behind = |bytes: &[&[u8]]| [&good[..], &bytes.concat()].concat();
+    vec![
+        ("rule set 2", good.clone(), 0, 0, 0),
+        ("rule set 1", long_head(2, 1, 2000, 1), 0, 0, 0),
+        ("36: rule set 3", long_head(2, 1, 2000, 3), 2, 36, 0),
+        ("36: rule set 0", long_head(2, 5, 0, 0), 2, 36, 0),
+        ("36: rule set 255", long_head(2, 3, 0, 255), 2, 36, 0),
+        ("2: length 5 in edition 1", long_head(1, 1, 2000, 1), 2, 2, 0),
+        ("2: length 4 in edition 2", head(2, 1, 2000), 2, 2, 0),
+        ("3: length 5 in edition 3", long_head(3, 1, 2000, 2), 2, 3, 0),
+        ("3: length 5 in edition 0", long_head(0, 1, 2000, 2), 2, 3, 0),
+        ("2: length 6 in edition 3", vec![1, 0, 6, 3, 1, 7, 208, 2, 0], 2, 2, 0),
+        ("2: length 6 in edition 2", vec![1, 0, 6, 2, 1, 7, 208, 2, 0], 2, 2, 0),
+        ("2: length 3", vec![1, 0, 3, 2, 1, 7], 2, 2, 0),
+        ("2: a length that does not suit, before 4", long_head(1, 2, 2000, 9), 2, 2, 0),
+        ("2: the same in edition 2", head(2, 2, 1), 2, 2, 0),
+        ("4 before 36", long_head(2, 2, 2000, 3), 2, 4, 0),
+        ("5 before 36", long_head(2, 1, 0, 3), 2, 5, 0),
+        ("5: 2000 in kind 5", long_head(2, 5, 2000, 2), 2, 5, 0),
+        ("1: cut before the rule set", good[..7].to_vec(), 2, 1, 0),
+        ("2: another tag", [&[2][..], &good[1..]].concat(), 2, 2, 0),
+        ("1: one byte behind the head", behind(&[&[3]]), 2, 1, 8),
+        (
+            "36 before a fault behind the head",
+            [&long_head(2, 1, 2000, 3)[..], &[9]].concat(),
+            2,
+            36,
+            0,
+        ),
+        ("2: a second head at 8", behind(&[&good]), 2, 2, 8),
+        ("2: edition 1's as the second", behind(&[&one, &head(1, 1, 2000)]), 2, 2, 25),
+        ("6: at 8", behind(&[&[2, 0, 0]]), 2, 6, 8),
+        ("7: at 25", behind(&[&one, &[3, 0, 13], &[0; 13]]), 2, 7, 25),
+        ("8: at 8", behind(&[&field(65_535, 2, 11, 1)]), 2, 8, 8),
+        ("10: at 25", behind(&[&one, &field(10, 2, 12, 0)]), 2, 10, 25),
+        ("12: at 25", behind(&[&one, &field(10, 2, 12, 1)]), 1, 12, 25),
+        ("28: at 8", [long_head(2, 5, 0, 2), field(10, 2, 11, 2)].concat(), 2, 28, 8),
+    ]
+}
+
 fn book(kind: u8, rows: &[(u16, u16, u16, u64)]) -> Vec<u8> {
     let base = if kind == 1 { 2000 } else { 0 };
     let fields = rows.iter().map(|(s, p, o, a)| field(*s, *p, *o, *a));
     [head(1, kind, base), fields.collect::<Vec<_>>().concat()].concat()
+}
+
+/// The same in edition 2 with rule set 2.
+fn book_2(kind: u8, rows: &[(u16, u16, u16, u64)]) -> Vec<u8> {
+    let one = book(kind, rows);
+    let base = u16::from_be_bytes([one[5], one[6]]);
+    [&long_head(2, kind, base, 2)[..], &one[7..]].concat()
 }
 
 /// A name, a book, and what the closing program must write for it.
@@ -224,5 +280,66 @@ pub fn listings() -> Vec<Listing> {
         ("too long", vec![0; 65_536], "refused 13 0\n"),
         ("a head alone", head(1, 5, 0), "closed 5 0 0\n"),
         ("a head of kind 2", head(1, 2, 0), "refused 4 0\n"),
+    ]
+}
+
+/// P1's book in edition 2 with rule set 2.
+pub fn p1_in_rule_set_2() -> Vec<u8> {
+    book_2(1, &[(10, 2, 11, 0x78), (11, 1, 12, 0x7E0)])
+}
+
+/// In rule set 2 (C-23), and edition 2 with rule set 1 beside it.
+pub fn listings_of_rule_set_2() -> Vec<Listing> {
+    let top = 1000;
+    vec![
+        (
+            "P1",
+            p1_in_rule_set_2(),
+            "closed 1 2000 8\n0 0 0 2040\n1 0 1 2040\n2 0 2 120\n10 2 11 120\n10 2 12 96\n\
+             11 1 11 2040\n11 1 12 2016\n12 1 12 2016\n",
+        ),
+        (
+            "P1 in edition 2, rule set 1",
+            [&long_head(2, 1, 2000, 1)[..], &p1()[7..]].concat(),
+            "closed 1 2000 3\n10 2 11 120\n10 2 12 96\n11 1 12 2016\n",
+        ),
+        (
+            "two blanks",
+            book_2(3, &[(16_384, 0, 16_385, 600)]),
+            "closed 3 0 4\n0 0 0 600\n16384 0 16384 600\n16384 0 16385 600\n16385 0 16385 600\n",
+        ),
+        (
+            "P9",
+            book_2(3, &[(5, 1, 6, 600), (6, 1, 5, 400)]),
+            "closed 3 0 6\n0 0 0 600\n1 0 1 600\n5 1 5 600\n5 1 6 600\n6 1 5 400\n6 1 6 600\n",
+        ),
+        (
+            "a domain",
+            book_2(3, &[(20, 3, 12, 700)]),
+            "closed 3 0 6\n0 0 0 700\n1 0 1 700\n3 0 3 700\n12 1 12 700\n20 0 20 700\n20 3 12 700\n",
+        ),
+        (
+            "a use, in strict degrees",
+            book_2(4, &[(10, 20, 30, 400)]),
+            "closed 4 0 3\n0 0 0 400\n10 20 30 400\n20 0 20 400\n",
+        ),
+        (
+            "a class that is a value, of a sheet",
+            book_2(5, &[(10, 2, 49_152, SHEETS_0_AND_1)]),
+            "closed 5 0 5\n0 0 0 9838263505978427528\n1 0 1 9838263505978427528\n\
+             2 0 2 9838263505978427528\n10 2 49152 9838263505978427528\n\
+             49152 1 49152 9838263505978427528\n",
+        ),
+        (
+            "a range, and sp of its own",
+            book_2(3, &[(20, 4, 32_768, top), (0, 0, 40, top)]),
+            "closed 3 0 14\n0 0 0 1000\n0 0 40 1000\n0 40 0 1000\n0 40 40 1000\n1 0 1 1000\n\
+             1 40 1 1000\n4 0 4 1000\n4 40 4 1000\n20 0 20 1000\n20 4 32768 1000\n20 40 20 1000\n\
+             40 0 40 1000\n40 40 40 1000\n32768 1 32768 1000\n",
+        ),
+        ("a head alone", long_head(2, 5, 0, 2), "closed 5 0 0\n"),
+        ("36", long_head(2, 5, 0, 3), "refused 36 0\n"),
+        ("2", long_head(1, 5, 0, 2), "refused 2 0\n"),
+        ("3", long_head(3, 5, 0, 2), "refused 3 0\n"),
     ]
 }

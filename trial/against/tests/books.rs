@@ -19,7 +19,8 @@ fn write_agrees_on_random_tables() {
 /// Each stored book gets the number and place that stand beside it, from both.
 #[test]
 fn stored_books_get_their_number_and_place() {
-    for (name, bytes, room, number, place) in stored::books() {
+    let books = [stored::books(), stored::books_of_edition_2()].concat();
+    for (name, bytes, room, number, place) in books {
         let lanes = Lanes::zero(room);
         books::read_one(&bytes, &lanes).unwrap();
         let answer = calls::read(&bytes, &mut lanes.clone());
@@ -33,10 +34,43 @@ fn p1_reads_to_its_two_rows() {
     let mut lanes = Lanes::zero(4);
     let answer = calls::read(&stored::p1(), &mut lanes);
     assert_eq!((answer.number, answer.kind, answer.base, answer.count), (0, 1, 2000, 2));
+    assert_eq!(answer.rules, 1);
     assert_eq!(lanes.subj, [10, 11, 0, 0]);
     assert_eq!(lanes.pred, [2, 1, 0, 0]);
     assert_eq!(lanes.obj, [11, 12, 0, 0]);
     assert_eq!(lanes.ann, [120, 2016, 0, 0]);
+}
+
+/// Every edition and every rule set, in heads of both lengths.
+#[test]
+fn every_edition_and_rule_set_agrees() {
+    for byte in 0..=255 {
+        for head in [
+            book::head(byte, 3, 0),
+            book::long_head(byte, 3, 0, 1),
+            book::long_head(byte, 3, 0, 2),
+            book::long_head(2, 3, 0, byte),
+            book::long_head(1, 3, 0, byte),
+            book::long_head(2, byte, 2000, 2),
+        ] {
+            let bytes = [&head[..], &book::triple_field(((10, 2, 11), 5))].concat();
+            books::read_one(&bytes, &Lanes::zero(2)).unwrap();
+        }
+    }
+}
+
+/// Writing in every rule set, into output around what it needs.
+#[test]
+fn every_rule_set_is_written_or_refused() {
+    let mut random = Random::new(8);
+    for rules in 0..=255 {
+        for (kind, base) in [(1, 2000), (3, 0), (5, 9), (2, 0)] {
+            let (lanes, count) = tables::small(&mut random, kind, 3);
+            for room in [0, 6, 7, 8, 17 * count + 7, 17 * count + 8, 90] {
+                books::write_one((kind, base, rules), &lanes, count, &vec![9; room]).unwrap();
+            }
+        }
+    }
 }
 
 /// A book cut at every byte.

@@ -1,4 +1,5 @@
-//! Books: valid in any order with equal triples, damaged, cut, with several faults at once.
+//! Books of both editions and rule sets: valid in any order with equal triples, damaged, cut, with
+//! several faults at once.
 
 use super::{bad_row, damage, legal_kind, row, Random};
 use crate::book;
@@ -9,6 +10,15 @@ pub fn base(random: &mut Random, kind: u8) -> u16 {
         1 => random.pick(&[1900, 1901, 2000, 2024, 2099, 2100]),
         _ => 0,
     }
+}
+
+/// A legal head: edition 1, or edition 2 with rule set 1 or 2.
+pub fn legal_head(random: &mut Random, kind: u8) -> Vec<u8> {
+    let base = base(random, kind);
+    if random.chance(2) {
+        return book::head(1, kind, base);
+    }
+    book::long_head(2, kind, base, random.pick(&[1, 2, 2]))
 }
 
 /// The number of triple fields: mostly few, sometimes as many as a book holds.
@@ -23,7 +33,7 @@ fn length(random: &mut Random) -> usize {
 
 /// A book of so many triple fields, in no order, with equal triples.
 pub fn of_length(random: &mut Random, kind: u8, fields: usize) -> Vec<u8> {
-    let mut bytes = book::head(1, kind, base(random, kind));
+    let mut bytes = legal_head(random, kind);
     for _ in 0..fields {
         bytes.extend(book::triple_field(row(random, kind)));
     }
@@ -36,12 +46,20 @@ pub fn valid(random: &mut Random, kind: u8) -> Vec<u8> {
     of_length(random, kind, fields)
 }
 
-/// Any head: each of its contents may be wrong, and its tag and length too.
+/// Any head: each of its contents may be wrong, and its tag and length too. One with a rule set that
+/// there is not is mostly legal else, so that it comes to be judged.
 pub fn head(random: &mut Random) -> Vec<u8> {
     let kind = random.pick(&[0, 1, 1, 1, 2, 3, 4, 5, 6, 255]);
-    let edition = random.pick(&[0, 1, 1, 1, 1, 2, 255]);
-    let base = random.pick(&[0, 0, 1, 1899, 1900, 2000, 2100, 2101, 65_535]);
-    let mut bytes = book::head(edition, kind, base);
+    let edition = random.pick(&[0, 1, 1, 1, 2, 2, 2, 3, 255]);
+    let year = random.pick(&[0, 0, 1, 1899, 1900, 2000, 2100, 2101, 65_535]);
+    let rules = random.pick(&[0, 1, 2, 2, 3, 4, 255]);
+    // A length that suits the edition, mostly.
+    let short = (edition == 1) != random.chance(5);
+    let mut bytes = match random.below(4) {
+        0 => long_head_of(random, rules),
+        _ if short => book::head(edition, kind, year),
+        _ => book::long_head(edition, kind, year, rules),
+    };
     if random.chance(6) {
         resize(random, &mut bytes);
     }
@@ -49,6 +67,12 @@ pub fn head(random: &mut Random) -> Vec<u8> {
         bytes[0] = random.pick(&[0, 2, 3, 16, 255]);
     }
     bytes
+}
+
+/// A head of edition 2, legal but for its rule set.
+fn long_head_of(random: &mut Random, rules: u8) -> Vec<u8> {
+    let kind = legal_kind(random);
+    book::long_head(2, kind, base(random, kind), rules)
 }
 
 /// Changes a field's length by one or two, and its value with it or not.
@@ -79,7 +103,7 @@ fn bad_field(random: &mut Random, kind: u8) -> Vec<u8> {
 
 /// A book with faults: in its head, in one to three of its fields, in its bytes.
 pub fn damaged(random: &mut Random, kind: u8) -> Vec<u8> {
-    let good_head = book::head(1, kind, base(random, kind));
+    let good_head = legal_head(random, kind);
     let mut fields = vec![if random.chance(4) { head(random) } else { good_head }];
     for _ in 0..random.below(10) {
         fields.push(book::triple_field(row(random, kind)));

@@ -1,10 +1,10 @@
-//! Tables to close: chains, webs, blanks and literals and the five names as properties, with
-//! room exactly for the closure, or for one row less.
+//! Tables to close: chains, webs, blanks and literals and the five names as properties, what comes
+//! one row after another; with room exactly for the closure, or for one row less.
 
-use super::{annotation, legal_kind, row, tables, Random, TERMS};
-use crate::closing;
+use super::{annotation, legal_kind, legal_rules, row, slow, tables, Random, TERMS};
 use crate::table::{self, Lanes, Row, Triple};
 use crate::term::{DOM, RANGE, SC, SP, TYPE};
+use crate::{annotation as annotations, closing};
 use std::collections::BTreeMap;
 
 /// Triples with equal ones joined, as ascending rows.
@@ -89,20 +89,48 @@ fn broad(random: &mut Random) -> Vec<Triple> {
 
 /// Legal rows, ascending, of one of these makes.
 pub fn rows(random: &mut Random, kind: u8) -> Vec<Row> {
-    let triples = match random.below(16) {
+    let triples = match random.below(18) {
         0 | 1 => chain(random),
         2..=4 => layers(random),
         5..=7 => pool(random),
         8 => broad(random),
+        9 | 10 => return slow::small(random, kind),
         _ => web(random),
     };
     rows_of(random, kind, &triples)
 }
 
-/// A sound table to close. The room is often exactly the closure's, or one row less.
-pub fn sound(random: &mut Random, kind: u8) -> (Lanes, usize) {
+/// At most 1,024 rows whose closure has 1,023 to 1,025: few of a web, and uses of a property that the
+/// web does not know. They have the top, and each of them but the first is one row more.
+pub fn brim(random: &mut Random, kind: u8, rules: u8) -> Vec<Row> {
+    let used = |at: usize| ((1000 + at as u16, 23, 30), annotations::top(kind));
+    let closed_with = |rows: &[Row], uses: usize| {
+        let rows: Vec<Row> = rows.iter().copied().chain((0..uses).map(used)).collect();
+        let closed = closing::closure(kind, rules, &rows, table::LONGEST);
+        closed.map_or(table::LONGEST, |closed| closed.len())
+    };
+    let triples = web(random);
+    let mut rows = rows_of(random, kind, &triples);
+    // A web with (sp sp dom) types every use in rule set 2, and others do the like.
+    if closed_with(&rows, 2) != closed_with(&rows, 1) + 1 {
+        rows.clear();
+    }
+    let wanted = table::LONGEST + random.below(3) - 1;
+    let uses = wanted.saturating_sub(closed_with(&rows, 1)) + 1;
+    let uses = uses.min(table::LONGEST - rows.len());
+    rows.extend((0..uses).map(used));
+    rows.sort_unstable();
+    rows
+}
+
+/// A sound table to close under a rule set. The room is often exactly the closure's, or one row less.
+pub fn sound(random: &mut Random, kind: u8, rules: u8) -> (Lanes, usize) {
+    if random.chance(24) {
+        let rows = brim(random, kind, rules);
+        return (tables::lanes_of(random, &rows, table::LONGEST), rows.len());
+    }
     let rows = rows(random, kind);
-    let closed = closing::closure(kind, &rows, table::LONGEST);
+    let closed = closing::closure(kind, rules, &rows, table::LONGEST);
     let closed = closed.map_or(table::LONGEST, |closed| closed.len());
     let some = random.from_to(rows.len(), table::LONGEST);
     let room = random.pick(&[closed, closed, closed.saturating_sub(1), closed + 1, 1024, some]);
@@ -110,14 +138,16 @@ pub fn sound(random: &mut Random, kind: u8) -> (Lanes, usize) {
     (tables::lanes_of(random, &rows, room), rows.len())
 }
 
-/// A kind and a table to close, broken now and then.
-pub fn any(random: &mut Random) -> (u8, Lanes, usize) {
+/// A kind, a rule set and a table to close, broken now and then.
+pub fn any(random: &mut Random) -> (u8, u8, Lanes, usize) {
     if random.chance(6) {
-        let kind = super::kind(random);
+        let (kind, rules) = (super::kind(random), super::rules(random));
         let (lanes, count) = tables::broken(random, kind);
-        return (kind, lanes, count);
+        return (kind, rules, lanes, count);
     }
-    let kind = legal_kind(random);
-    let (lanes, count) = sound(random, kind);
-    (kind, lanes, count)
+    let (kind, rules) = (legal_kind(random), legal_rules(random));
+    let (lanes, count) = sound(random, kind, rules);
+    // A sound table, and yet no rule set of this number.
+    let rules = if random.chance(24) { random.pick(&[0, 3, 4, 255]) } else { rules };
+    (kind, rules, lanes, count)
 }

@@ -1,6 +1,6 @@
 //! Input for the counter's program: a book, then questions, each behind a length.
 
-use super::{annotation, books, closings, damage, legal_kind, questions, Random};
+use super::{annotation, books, closings, damage, legal_kind, legal_rules, questions, Random};
 use crate::book;
 use crate::pattern::{AnnSlot, Pattern, Slot};
 use crate::question::{bytes_of, Part};
@@ -24,7 +24,7 @@ fn book_bytes(random: &mut Random, kind: u8) -> Vec<u8> {
         _ => {
             let rows = closings::rows(random, kind);
             let base = books::base(random, kind);
-            book::bytes_of(kind, base, &rows)
+            book::bytes_of(kind, base, legal_rules(random), &rows)
         }
     }
 }

@@ -2,7 +2,7 @@
 //! lists of any content.
 
 use super::lines::{self, spelled, text};
-use super::{annotation, files, legal_kind, tables, Random};
+use super::{annotation, files, legal_kind, legal_rules, tables, Random};
 use crate::ntriples::names::{MOST_NAMES, MOST_TEXT};
 use crate::ntriples::text::FIVE;
 use crate::ntriples::{read_triples, writing, Names, Sort, Text};
@@ -251,7 +251,7 @@ fn from_reading(random: &mut Random, kind: u8) -> (Lanes, usize, Names, usize) {
     let out = read_triples(kind, annotation(random, kind), &file, &mut lanes, &mut names);
     let mut count = out.count;
     if count < 40 && random.chance(5) {
-        count = crate::closing::close(kind, &mut lanes, count).count;
+        count = crate::closing::close(kind, legal_rules(random), &mut lanes, count).count;
     }
     if random.chance(2) {
         let end = names.ends.get(out.names.wrapping_sub(1)).copied().unwrap_or(0);

@@ -10,6 +10,7 @@ pub mod files;
 pub mod lines;
 pub mod lists;
 pub mod questions;
+pub mod slow;
 pub mod steps;
 pub mod tables;
 
@@ -87,6 +88,19 @@ pub fn kind(random: &mut Random) -> u8 {
         return random.pick(&[0, 2, 6, 255]);
     }
     legal_kind(random)
+}
+
+/// A rule set, 2 as often as 1.
+pub fn legal_rules(random: &mut Random) -> u8 {
+    random.pick(&[1, 2])
+}
+
+/// Mostly legal.
+pub fn rules(random: &mut Random) -> u8 {
+    if random.chance(16) {
+        return random.pick(&[0, 3, 4, 255]);
+    }
+    legal_rules(random)
 }
 
 /// A legal annotation; for an illegal kind, anything.

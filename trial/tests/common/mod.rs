@@ -36,7 +36,7 @@ pub fn lanes(rows: &[Row], room: usize) -> Lanes {
 
 /// The closure of rows in any order, with room for 1,024.
 pub fn closed(kind: u8, rows: &[Row]) -> Vec<Row> {
-    trial::closing::closure(kind, rows, 1024).expect("room")
+    trial::closing::closure(kind, 1, rows, 1024).expect("room")
 }
 
 /// What closing adds or changes, beside the input rows.

@@ -13,7 +13,7 @@ returns c =
     let the-if1 = c .before .before .before .before .before .before .before .before .before .before .before .before .before .before .if1 in
     let the-wipe = c .before .before .before .before .before .before .before .before .before .wipe in
     let the-refused = c .refused in
-    body-refused (the-args .kind) (the-args .base) (the-args .book .now) (the-args .start) (lanes (the-args .subj .now) (the-args .pred .now) (the-args .obj .now) (the-args .ann .now)) the-pre _ _ (the-read-fields .ensures) (the-if1 .taken) _ _ (the-wipe .ensures) (the-refused .ensures)
+    body-refused (the-args .kind) (the-args .base) (the-args .rules) (the-args .book .now) (the-args .start) (lanes (the-args .subj .now) (the-args .pred .now) (the-args .obj .now) (the-args .ann .now)) the-pre _ _ (the-read-fields .ensures) (the-if1 .taken) _ _ (the-wipe .ensures) (the-refused .ensures)
 
 returns-2 : tie.Need-returns-2
 returns-2 c =
@@ -21,7 +21,7 @@ returns-2 c =
     let the-pre = c .before .before .before .before .before .before .before .before .before .before .before .before .before .before .before .before .before .before .before .before .pre in
     let the-read-fields = c .before .before .before .before .before .before .before .before .before .before .read-fields in
     let the-if1 = c .if1 in
-    body-done (the-args .kind) (the-args .base) (the-args .book .now) (the-args .start) (lanes (the-args .subj .now) (the-args .pred .now) (the-args .obj .now) (the-args .ann .now)) the-pre _ _ (the-read-fields .ensures) (the-if1 .left)
+    body-done (the-args .kind) (the-args .base) (the-args .rules) (the-args .book .now) (the-args .start) (lanes (the-args .subj .now) (the-args .pred .now) (the-args .obj .now) (the-args .ann .now)) the-pre _ _ (the-read-fields .ensures) (the-if1 .left)
 
 pub read-body-spec : {M : Type 1} → statement M
 read-body-spec =

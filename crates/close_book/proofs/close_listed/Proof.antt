@@ -14,7 +14,7 @@ returns c =
     let the-pre = c .before .before .before .before .before .before .before .before .before .before .before .before .before .before .before .before .before .before .before .before .before .before .before .before .before .pre in
     let the-if1 = c .before .before .before .before .if1 in
     let the-put-refused = c .before .before .put-refused in
-    unread-listed (the-args .book .now) (lanes (the-args .subj .now) (the-args .pred .now) (the-args .obj .now) (the-args .ann .now)) _ _ _ _ _ _ (the-read .ensures) (the-args .out .now) _ _ (the-pre)
+    unread-listed (the-args .book .now) (lanes (the-args .subj .now) (the-args .pred .now) (the-args .obj .now) (the-args .ann .now)) _ _ _ _ _ _ _ (the-read .ensures) (the-args .out .now) _ _ (the-pre)
     (the-if1 .taken) (the-put-refused .ensures)
 
 put-refused-requires-2 : tie.Need-put-refused-requires-2
@@ -31,7 +31,7 @@ returns-2 c =
     let the-close = c .before .before .before .before .before .before .before .before .before .before .before .before .before .before .close in
     let the-if2 = c .before .before .before .before .if2 in
     let the-put-refused2 = c .before .before .put-refused2 in
-    full-listed (the-args .book .now) (lanes (the-args .subj .now) (the-args .pred .now) (the-args .obj .now) (the-args .ann .now)) _ _ _ _ _ _ (the-read .ensures) (the-args .out .now) _ _ (the-pre)
+    full-listed (the-args .book .now) (lanes (the-args .subj .now) (the-args .pred .now) (the-args .obj .now) (the-args .ann .now)) _ _ _ _ _ _ _ (the-read .ensures) (the-args .out .now) _ _ (the-pre)
     (the-if1 .left) _ _ _ _ (the-close .ensures) (the-if2 .taken) (the-put-refused2 .ensures)
 
 put-closed-requires : tie.Need-put-closed-requires
@@ -42,20 +42,20 @@ put-closed-requires c κs =
     let the-if1 = c .before .before .before .before .before .before .before .before .before .before .before .before .before .before .before .before .before .before .before .before .if1 in
     let the-close = c .before .before .before .before .before .before .before .before .before .before .before .before .before .before .before .close in
     let the-if2 = c .before .before .before .before .before .if2 in
-    listing-fits (the-args .book .now) (lanes (the-args .subj .now) (the-args .pred .now) (the-args .obj .now) (the-args .ann .now)) _ _ _ _ _ _ (the-read .ensures) (the-args .out .now) (the-args .out .now) 0 (the-pre)
+    listing-fits (the-args .book .now) (lanes (the-args .subj .now) (the-args .pred .now) (the-args .obj .now) (the-args .ann .now)) _ _ _ _ _ _ _ (the-read .ensures) (the-args .out .now) (the-args .out .now) 0 (the-pre)
     (the-if1 .left) _ _ _ _ (the-close .ensures) (the-if2 .left)
 
 same-length-11 : tie.Need-same-length-11
 same-length-11 c =
     let the-close = c .before .before .before .before .before .before .before .before .before .before .before .before .before .before .before .before .before .before .close in
     let the-read = c .before .before .before .before .before .before .before .before .before .before .before .before .before .before .before .before .before .before .before .before .before .before .before .before .before .before .before .before .before .before .before .before .before .read in
-    the-close .kept .1 .0 ∙ the-read .kept .1 .0
+    the-close .kept .1 .1 .0 ∙ the-read .kept .1 .0
 
 same-length-12 : tie.Need-same-length-12
 same-length-12 c =
     let the-close = c .before .before .before .before .before .before .before .before .before .before .before .before .before .before .before .before .before .before .close in
     let the-read = c .before .before .before .before .before .before .before .before .before .before .before .before .before .before .before .before .before .before .before .before .before .before .before .before .before .before .before .before .before .before .before .before .before .read in
-    the-close .kept .1 .1 .0 ∙ the-read .kept .1 .1 .0
+    the-close .kept .1 .1 .1 .0 ∙ the-read .kept .1 .1 .0
 
 returns-3 : tie.Need-returns-3
 returns-3 c =
@@ -66,7 +66,7 @@ returns-3 c =
     let the-close = c .before .before .before .before .before .before .before .before .before .before .before .before .before .before .before .before .before .before .close in
     let the-if2 = c .before .before .before .before .before .before .before .before .if2 in
     let the-put-closed = c .before .before .put-closed in
-    closed-listed (the-args .book .now) (lanes (the-args .subj .now) (the-args .pred .now) (the-args .obj .now) (the-args .ann .now)) _ _ _ _ _ _ (the-read .ensures) (the-args .out .now) _ _ (the-pre)
+    closed-listed (the-args .book .now) (lanes (the-args .subj .now) (the-args .pred .now) (the-args .obj .now) (the-args .ann .now)) _ _ _ _ _ _ _ (the-read .ensures) (the-args .out .now) _ _ (the-pre)
     (the-if1 .left) _ _ _ _ (the-close .ensures) (the-if2 .left) (the-put-closed .ensures)
 
 pub close-listed-spec : {M : Type 1} → statement M

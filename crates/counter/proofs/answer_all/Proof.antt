@@ -10,13 +10,13 @@ use Rattle.counter.proofs.answer_all.Statement.{statement}
 use Rattle.counter.proofs.answer_all.Tie as tie
 
 abbrev Inv-loop : tie.InvT-loop
-Inv-loop kind subj₀ pred₀ obj₀ ann₀ count bytes₀ text₀ terms₀ anns₀ rows₀ turns₀ subj pred obj ann bytes text terms anns rows turns =
+Inv-loop kind rules subj₀ pred₀ obj₀ ann₀ count bytes₀ text₀ terms₀ anns₀ rows₀ turns₀ subj pred obj ann bytes text terms anns rows turns =
     Ready kind (lanes subj pred obj ann) rows
     × (length subj ≡ length subj₀) × (length pred ≡ length pred₀) × (length obj ≡ length obj₀) × (length ann ≡ length ann₀)
     × (length bytes ≡ length bytes₀) × (length text ≡ length text₀) × (length terms ≡ 4096) × (length anns ≡ 2048)
 
 abbrev μ-loop : tie.MeasureT-loop
-μ-loop kind subj₀ pred₀ obj₀ ann₀ count bytes₀ text₀ terms₀ anns₀ rows₀ turns₀ subj pred obj ann bytes text terms anns rows turns =
+μ-loop kind rules subj₀ pred₀ obj₀ ann₀ count bytes₀ text₀ terms₀ anns₀ rows₀ turns₀ subj pred obj ann bytes text terms anns rows turns =
     turns
 
 loop-holds : tie.Need-loop-holds Inv-loop μ-loop
@@ -44,31 +44,31 @@ answer-requires : tie.Need-answer-requires Inv-loop μ-loop
 answer-requires c κs =
     let the-loop = c .before .before .before .before .before .before .before .before .before .before .before .before .before .loop in
     let the-pre = c .before .before .before .before .before .before .before .before .before .before .before .before .before .before .before .before .before .before .before .before .pre in
-    (the-loop .inv .0, the-loop .inv .7, the-loop .inv .8, omega (arith, the-pre .2, the-loop .inv .6))
+    (the-loop .inv .0, the-loop .inv .7, the-loop .inv .8, omega (arith, the-pre .2, the-loop .inv .6), the-pre .3)
 
 same-length : tie.Need-same-length Inv-loop μ-loop
 same-length c =
     let the-answer = c .before .before .before .before .before .before .before .before .before .before .before .before .before .before .before .answer in
     let the-loop = c .before .before .before .before .before .before .before .before .before .before .before .before .before .before .before .before .before .before .before .before .before .before .before .before .before .before .before .before .before .loop in
-    the-answer .kept .1 .1 .0 ∙ the-loop .inv .1
+    the-answer .kept .1 .1 .1 .0 ∙ the-loop .inv .1
 
 same-length-2 : tie.Need-same-length-2 Inv-loop μ-loop
 same-length-2 c =
     let the-answer = c .before .before .before .before .before .before .before .before .before .before .before .before .before .before .before .answer in
     let the-loop = c .before .before .before .before .before .before .before .before .before .before .before .before .before .before .before .before .before .before .before .before .before .before .before .before .before .before .before .before .before .loop in
-    the-answer .kept .1 .1 .1 .0 ∙ the-loop .inv .2
+    the-answer .kept .1 .1 .1 .1 .0 ∙ the-loop .inv .2
 
 same-length-3 : tie.Need-same-length-3 Inv-loop μ-loop
 same-length-3 c =
     let the-answer = c .before .before .before .before .before .before .before .before .before .before .before .before .before .before .before .answer in
     let the-loop = c .before .before .before .before .before .before .before .before .before .before .before .before .before .before .before .before .before .before .before .before .before .before .before .before .before .before .before .before .before .loop in
-    the-answer .kept .1 .1 .1 .1 .0 ∙ the-loop .inv .3
+    the-answer .kept .1 .1 .1 .1 .1 .0 ∙ the-loop .inv .3
 
 same-length-4 : tie.Need-same-length-4 Inv-loop μ-loop
 same-length-4 c =
     let the-answer = c .before .before .before .before .before .before .before .before .before .before .before .before .before .before .before .answer in
     let the-loop = c .before .before .before .before .before .before .before .before .before .before .before .before .before .before .before .before .before .before .before .before .before .before .before .before .before .before .before .before .before .loop in
-    the-answer .kept .1 .1 .1 .1 .1 .0 ∙ the-loop .inv .4
+    the-answer .kept .1 .1 .1 .1 .1 .1 .0 ∙ the-loop .inv .4
 
 same-length-5 : tie.Need-same-length-5 Inv-loop μ-loop
 same-length-5 c =
@@ -80,7 +80,7 @@ same-length-6 : tie.Need-same-length-6 Inv-loop μ-loop
 same-length-6 c =
     let the-answer = c .before .before .before .before .before .before .before .before .before .before .before .before .before .before .before .answer in
     let the-loop = c .before .before .before .before .before .before .before .before .before .before .before .before .before .before .before .before .before .before .before .before .before .before .before .before .before .before .before .before .before .loop in
-    the-answer .kept .1 .1 .1 .1 .1 .1 .1 .1 .1 .1 .0 ∙ the-loop .inv .6
+    the-answer .kept .1 .1 .1 .1 .1 .1 .1 .1 .1 .1 .1 .0 ∙ the-loop .inv .6
 
 loop-again : tie.Need-loop-again Inv-loop μ-loop
 loop-again c =
@@ -89,14 +89,14 @@ loop-again c =
     let the-loop = c .before .before .before .before .before .before .before .before .before .before .before .before .before .before .before .before .before .before .before .before .before .before .before .before .before .before .before .before .before .loop in
     let the-read-next = c .before .before .before .before .before .before .before .before .before .before .before .before .before .before .before .before .before .before .before .before .before .before .before .before .before .before .read-next in (
       the-answer .ensures .text-is .ready (the-if1 .left),
-      the-answer .kept .1 .1 .0 ∙ the-loop .inv .1,
-      the-answer .kept .1 .1 .1 .0 ∙ the-loop .inv .2,
-      the-answer .kept .1 .1 .1 .1 .0 ∙ the-loop .inv .3,
-      the-answer .kept .1 .1 .1 .1 .1 .0 ∙ the-loop .inv .4,
+      the-answer .kept .1 .1 .1 .0 ∙ the-loop .inv .1,
+      the-answer .kept .1 .1 .1 .1 .0 ∙ the-loop .inv .2,
+      the-answer .kept .1 .1 .1 .1 .1 .0 ∙ the-loop .inv .3,
+      the-answer .kept .1 .1 .1 .1 .1 .1 .0 ∙ the-loop .inv .4,
       the-read-next .kept .0 ∙ the-loop .inv .5,
-      the-answer .kept .1 .1 .1 .1 .1 .1 .1 .1 .1 .1 .0 ∙ the-loop .inv .6,
-      the-answer .kept .1 .1 .1 .1 .1 .1 .1 .1 .0 ∙ the-loop .inv .7,
-      the-answer .kept .1 .1 .1 .1 .1 .1 .1 .1 .1 .0 ∙ the-loop .inv .8,
+      the-answer .kept .1 .1 .1 .1 .1 .1 .1 .1 .1 .1 .1 .0 ∙ the-loop .inv .6,
+      the-answer .kept .1 .1 .1 .1 .1 .1 .1 .1 .1 .0 ∙ the-loop .inv .7,
+      the-answer .kept .1 .1 .1 .1 .1 .1 .1 .1 .1 .1 .0 ∙ the-loop .inv .8,
     )
 
 same-length-7 : tie.Need-same-length-7 Inv-loop μ-loop

@@ -18,6 +18,7 @@ answer-all-requires c κs =
       the-open-book .ensures .text-is .ready (the-if1 .left),
       omega (arith, the-read-next .kept .0, length-replicate {A = ℕ} 65537 0),
       omega (arith, the-open-book .kept .1 .1 .1 .1 .1 .0, length-replicate {A = ℕ} 67712 0),
+      the-open-book .ensures .text-is .rules-known (the-if1 .left),
     )
 
 pub main-spec : {M : Type 1} → statement M

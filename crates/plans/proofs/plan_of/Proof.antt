@@ -1,12 +1,16 @@
--- Each line is the definition's; past the last there is nothing to do.
-use mathlib.Core.Path.{_≡_, refl, _∙_, sym}
-use Prim.Native.Nat.{ℕ, _+_, _≤_}
+-- Each line is the definition's; those past the eight are the reflexive lines'.
+use mathlib.Core.Path.{refl, _∙_}
 use native.Mathlib.Omega.{arith}
-use lib.ListN.{List·getD-eq-default}
-use Rattle.plans.specs.Plans.{offPlan, plansOf}
+use Rattle.plans.specs.Plans.{plansOf}
+use Rattle.plans.proofs.Counting.{above, past-eight}
 use borrow.Author.Needs.{needs}
 use Rattle.plans.proofs.plan_of.Statement.{statement}
 use Rattle.plans.proofs.plan_of.Tie as tie
+
+sub-reflexive-plan : tie.Need-sub-reflexive-plan
+sub-reflexive-plan c =
+    let r = c .match .rest in
+    above 7 (above 6 (above 5 (above 4 (above 3 (above 2 (above 1 (above 0 (omega arith) (r .0 .0 .0 .0 .0 .0 .0 .1)) (r .0 .0 .0 .0 .0 .0 .1)) (r .0 .0 .0 .0 .0 .1)) (r .0 .0 .0 .0 .1)) (r .0 .0 .0 .1)) (r .0 .0 .1)) (r .0 .1)) (r .1)
 
 returns : tie.Need-returns
 unfolding plansOf
@@ -64,24 +68,35 @@ returns-8 c =
     let the-behind-plan2 = c .behind-plan2 in
     rw (the-match .keys8, the-behind-plan2 .ensures) refl
 
--- past j, and not j
-above : (j : ℕ) {k : ℕ} → j ≤ k → (k ≡ j → ⊥) → j + 1 ≤ k
-above j h n = omega arith
-
 returns-9 : tie.Need-returns-9
-unfolding plansOf
 returns-9 c =
     let the-match = c .before .match in
-    let the-off-plan = c .off-plan in
+    let the-reflexive-plan = c .reflexive-plan in
     let the-args = c .before .before .args in
     let r = the-match .rest in
-    the-off-plan .ensures ∙ sym (List·getD-eq-default (plansOf (the-args .x) (the-args .d) (the-args .y)) offPlan {n = the-args .rule}
-    (above 7 (above 6 (above 5 (above 4 (above 3 (above 2 (above 1 (above 0 (omega arith) (r .0 .0 .0 .0 .0 .0 .0 .1)) (r .0 .0 .0 .0 .0 .0 .1)) (r .0 .0 .0 .0 .0 .1)) (r .0 .0 .0 .0 .1)) (r .0 .0 .0 .1)) (r .0 .0 .1)) (r .0 .1)) (r .1)))
+    the-reflexive-plan .ensures ∙ past-eight (the-args .x) (the-args .d) (the-args .y) (the-args .rule)
+    (above 7 (above 6 (above 5 (above 4 (above 3 (above 2 (above 1 (above 0 (omega arith) (r .0 .0 .0 .0 .0 .0 .0 .1)) (r .0 .0 .0 .0 .0 .0 .1)) (r .0 .0 .0 .0 .0 .1)) (r .0 .0 .0 .0 .1)) (r .0 .0 .0 .1)) (r .0 .0 .1)) (r .0 .1)) (r .1))
 
 pub plan-of-spec : {M : Type 1} → statement M
 plan-of-spec =
     tie.close
     (tie.spec
-    (λ c κs. search needs) (λ c κs. search needs) (λ c κs. search needs) (λ c κs. search needs) (λ c κs. search needs) (λ c κs. search needs)
-    (λ c κs. search needs) (λ c κs. search needs) (λ c κs. search needs) returns returns-2 returns-3 returns-4 returns-5 returns-6 returns-7 returns-8
+    (λ c κs. search needs)
+    (λ c κs. search needs)
+    (λ c κs. search needs)
+    (λ c κs. search needs)
+    (λ c κs. search needs)
+    (λ c κs. search needs)
+    (λ c κs. search needs)
+    (λ c κs. search needs)
+    sub-reflexive-plan
+    (λ c κs. search needs)
+    returns
+    returns-2
+    returns-3
+    returns-4
+    returns-5
+    returns-6
+    returns-7
+    returns-8
     returns-9)

@@ -4,29 +4,30 @@ use Prim.Native.Nat.{_≤_, _<_}
 use native.Mathlib.Omega.{arith}
 use lib.ListN.{length}
 use Rattle.table.specs.Rows.{lanes}
-use Rattle.rhodf.specs.Rules.{Rule}
+use Rattle.rhodf.specs.Rules.{rulesOf}
 use Rattle.plans.specs.Plans.{plansFor}
-use Rattle.plans.proofs.Obeying.{rhodf-driven}
+use Rattle.plans.proofs.Obeying.{set-driven}
 use Rattle.rounds.specs.Due.{ToCome, Seeking}
-use Rattle.rounds.proofs.Staying.{rhodf-staying}
+use Rattle.rounds.proofs.Staying.{set-staying}
 use Rattle.rounds.proofs.Rounding.{SoFar, roundLeft, left-falls, rows-of-three, round-start, round-skip, first-all, onward-comes, round-turn, round-full, round-end}
 use borrow.Author.Needs.{needs}
 use Rattle.rounds.proofs.round.Statement.{statement}
 use Rattle.rounds.proofs.round.Tie as tie
 
 abbrev Inv-loop : tie.InvT-loop
-Inv-loop turn kind subj₀ pred₀ obj₀ ann₀ count due₀ rose₀ n₀ changed₀ near₀ i₀ subj pred obj ann due rose n changed near i =
-    SoFar Rule plansFor kind due₀ (lanes subj₀ pred₀ obj₀ ann₀) count (lanes subj pred obj ann) changed n due rose (ToCome turn i) × Seeking turn n i
+Inv-loop turn kind rules subj₀ pred₀ obj₀ ann₀ count due₀ rose₀ n₀ changed₀ near₀ i₀ subj pred obj ann due rose n changed near i =
+    SoFar (rulesOf rules) (plansFor rules) kind due₀ (lanes subj₀ pred₀ obj₀ ann₀) count (lanes subj pred obj ann) changed n due rose (ToCome turn i) × Seeking turn n i
 
 abbrev μ-loop : tie.MeasureT-loop
-μ-loop turn kind subj₀ pred₀ obj₀ ann₀ count due₀ rose₀ n₀ changed₀ near₀ i₀ subj pred obj ann due rose n changed near i =
+μ-loop turn kind rules subj₀ pred₀ obj₀ ann₀ count due₀ rose₀ n₀ changed₀ near₀ i₀ subj pred obj ann due rose n changed near i =
     roundLeft turn (length subj₀) n i
 
 loop-holds : tie.Need-loop-holds Inv-loop μ-loop
 loop-holds c =
+    let the-args = c .before .before .before .before .before .args in
     let the-pre = c .before .before .before .before .before .pre in
     let the-first = c .first in
-    (round-start rhodf-driven (the-pre .0) (the-pre .1) (first-all (the-first .ensures)), record { down = λ e. omega (arith, the-first .ensures .down e) })
+    (round-start (set-driven (the-args .rules)) (the-pre .0) (the-pre .1) (first-all (the-first .ensures)), record { down = λ e. omega (arith, the-first .ensures .down e) })
 
 seek-requires : tie.Need-seek-requires Inv-loop μ-loop
 seek-requires c κs =
@@ -55,10 +56,11 @@ same-length-4 c =
 
 returns : tie.Need-returns Inv-loop μ-loop
 returns c =
+    let the-args = c .before .before .before .before .before .before .before .before .before .before .before .before .args in
     let the-loop = c .before .before .before .before .before .before .loop in
     let the-seek = c .before .seek in
     let the-if1 = c .if1 in
-    round-end rhodf-driven (round-skip rhodf-driven (the-loop .inv .0) (the-seek .ensures .rest)) (λ j h t. omega (arith, t .0, the-if1 .taken))
+    round-end (set-driven (the-args .rules)) (round-skip (set-driven (the-args .rules)) (the-loop .inv .0) (the-seek .ensures .rest)) (λ j h t. omega (arith, t .0, the-if1 .taken))
 
 ask-row-requires : tie.Need-ask-row-requires Inv-loop μ-loop
 ask-row-requires c κs =
@@ -103,12 +105,13 @@ same-length-8 c =
 
 returns-2 : tie.Need-returns-2 Inv-loop μ-loop
 returns-2 c =
+    let the-args = c .before .before .before .before .before .before .before .before .before .before .before .before .before .before .before .before .before .before .before .before .before .before .before .before .before .before .before .before .before .before .before .args in
     let the-loop = c .before .before .before .before .before .before .before .before .before .before .before .before .before .before .before .before .before .before .before .before .before .before .before .before .before .loop in
     let the-seek = c .before .before .before .before .before .before .before .before .before .before .before .before .before .before .before .before .before .before .before .before .seek in
     let the-ask-row = c .before .before .before .before .before .before .before .before .before .before .before .before .ask-row in
     let the-either = c .before .either in
     let the-if2 = c .if2 in
-    round-full rhodf-driven rhodf-staying (round-skip rhodf-driven (the-loop .inv .0) (the-seek .ensures .rest)) (the-ask-row .ensures) (the-either .ensures) (the-if2 .taken)
+    round-full (set-driven (the-args .rules)) (set-staying (the-args .rules)) (round-skip (set-driven (the-args .rules)) (the-loop .inv .0) (the-seek .ensures .rest)) (the-ask-row .ensures) (the-either .ensures) (the-if2 .taken)
 
 loop-less : tie.Need-loop-less Inv-loop μ-loop
 loop-less c =
@@ -121,6 +124,7 @@ loop-less c =
 
 loop-again : tie.Need-loop-again Inv-loop μ-loop
 loop-again c =
+    let the-args = c .before .before .before .before .before .before .before .before .before .before .before .before .before .before .before .before .before .before .before .before .before .before .before .before .before .before .before .before .before .before .before .args in
     let the-loop = c .before .before .before .before .before .before .before .before .before .before .before .before .before .before .before .before .before .before .before .before .before .before .before .before .before .loop in
     let the-seek = c .before .before .before .before .before .before .before .before .before .before .before .before .before .before .before .before .before .before .before .before .seek in
     let the-ask-row = c .before .before .before .before .before .before .before .before .before .before .before .before .ask-row in
@@ -128,7 +132,7 @@ loop-again c =
     let the-if2 = c .if2 in
     let the-onward = c .before .before .onward in
     let the-if1 = c .before .before .before .before .before .before .before .before .before .before .before .before .before .before .before .before .before .before .before .if1 in
-    (round-turn rhodf-driven rhodf-staying (round-skip rhodf-driven (the-loop .inv .0) (the-seek .ensures .rest)) (the-ask-row .ensures) (the-either .ensures) (the-if2 .left) (onward-comes (the-ask-row .ensures .drew .risen .more) (the-onward .ensures)), record { down = λ e. omega (arith, the-onward .ensures .down e, the-if1 .left, the-ask-row .ensures .drew .risen .more) })
+    (round-turn (set-driven (the-args .rules)) (set-staying (the-args .rules)) (round-skip (set-driven (the-args .rules)) (the-loop .inv .0) (the-seek .ensures .rest)) (the-ask-row .ensures) (the-either .ensures) (the-if2 .left) (onward-comes (the-ask-row .ensures .drew .risen .more) (the-onward .ensures)), record { down = λ e. omega (arith, the-onward .ensures .down e, the-if1 .left, the-ask-row .ensures .drew .risen .more) })
 
 pub round-spec : {M : Type 1} → statement M
 round-spec =

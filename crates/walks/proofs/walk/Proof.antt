@@ -5,7 +5,7 @@ use native.Mathlib.Omega.{arith}
 use lib.ListN.{length}
 use Rattle.table.specs.Rows.{lanes}
 use Rattle.table.proofs.Soundness.{sound-ordered}
-use Rattle.rhodf.specs.Rules.{Rule}
+use Rattle.rhodf.specs.Rules.{rulesOf}
 use Rattle.walks.specs.Rising.{Drew}
 use Rattle.walks.specs.Walks.{OfOne, RowMet}
 use Rattle.walks.proofs.Rising.{Passed, turn, goes-on, drew-full}
@@ -16,11 +16,11 @@ use Rattle.walks.proofs.walk.Statement.{statement}
 use Rattle.walks.proofs.walk.Tie as tie
 
 abbrev Inv-loop : tie.InvT-loop
-Inv-loop kind subj₀ pred₀ obj₀ ann₀ count plan a hint n₀ changed₀ near₀ i₀ subj pred obj ann n changed near i =
-    Drew Rule kind (OfOne (plan .s)) (Passed (RowMet kind plan a) i₀ i (lanes subj₀ pred₀ obj₀ ann₀) count) (lanes subj₀ pred₀ obj₀ ann₀) count (lanes subj pred obj ann) false changed n
+Inv-loop kind rules subj₀ pred₀ obj₀ ann₀ count plan a hint n₀ changed₀ near₀ i₀ subj pred obj ann n changed near i =
+    Drew (rulesOf rules) kind (OfOne (plan .s)) (Passed (RowMet kind plan a) i₀ i (lanes subj₀ pred₀ obj₀ ann₀) count) (lanes subj₀ pred₀ obj₀ ann₀) count (lanes subj pred obj ann) false changed n
 
 abbrev μ-loop : tie.MeasureT-loop
-μ-loop kind subj₀ pred₀ obj₀ ann₀ count plan a hint n₀ changed₀ near₀ i₀ subj pred obj ann n changed near i =
+μ-loop kind rules subj₀ pred₀ obj₀ ann₀ count plan a hint n₀ changed₀ near₀ i₀ subj pred obj ann n changed near i =
     length subj₀ - i
 
 find-requires : tie.Need-find-requires Inv-loop μ-loop
@@ -34,7 +34,7 @@ loop-holds c =
     let the-good = c .before .before .before .before .before .before .before .before .before .good in
     let the-key-of = c .before .key-of in
     let the-find = c .find in
-    walk-start the-pre (omega (arith, the-good)) (rw (the-key-of .ensures) at (the-find .ensures))
+    walk-start the-pre (omega (arith, the-pre .shaped)) (omega (arith, the-good)) (rw (the-key-of .ensures) at (the-find .ensures))
 
 begins-requires : tie.Need-begins-requires Inv-loop μ-loop
 begins-requires c κs =
@@ -88,7 +88,7 @@ returns-2 c =
     let the-loop = c .before .before .before .before .loop in
     let the-begins = c .before .begins in
     let the-if1 = c .if1 in
-    walk-end the-pre (omega (arith, the-good)) (rw (the-key-of .ensures) at (the-find .ensures)) (the-loop .inv) (the-begins .ensures) (the-if1 .left)
+    walk-end the-pre (omega (arith, the-pre .shaped)) (omega (arith, the-good)) (rw (the-key-of .ensures) at (the-find .ensures)) (the-loop .inv) (the-begins .ensures) (the-if1 .left)
 
 pub walk-spec : {M : Type 1} → statement M
 walk-spec =

@@ -7,6 +7,7 @@ mod strip;
 use crate::annotation::Kind;
 use crate::answers::{totals, Asking};
 use crate::calls::{Answer, Asked, Row};
+use crate::head::BASIC;
 use crate::question::Question;
 use crate::refusal::{place_word, Refused};
 use html::{escaped, list, name};
@@ -26,16 +27,19 @@ const LONG: usize = 24;
 /// A page in the making.
 struct Page<'a> {
     asking: &'a Asking<'a>,
+    rules: u8,
+    /// The rows that are shown.
+    rows: &'a [Row],
     axis: Axis,
 }
 
-/// The page, and whether every question was answered in full.
-pub fn page(asking: &Asking) -> (String, bool) {
+/// The page with these of the book's rows, and whether every question was answered in full.
+pub fn page(asking: &Asking, rules: u8, rows: &[Row]) -> (String, bool) {
     let axis = Axis::of(asking.kind, asking.table.rows.iter().map(|row| row.value));
-    let page = Page { asking, axis };
+    let page = Page { asking, rules, rows, axis };
     let mut shown = page.head();
     shown += "<main>\n";
-    for rows in asking.table.rows.chunk_by(|one, other| one.triple[0] == other.triple[0]) {
+    for rows in rows.chunk_by(|one, other| one.triple[0] == other.triple[0]) {
         shown += &page.subject(rows);
     }
     let mut done = true;
@@ -81,6 +85,17 @@ impl Page<'_> {
         let title = escaped(title(self.asking.file));
         let rows = &self.asking.table.rows;
         let stated = rows.iter().filter(|row| self.stated(row) != 0).count();
+        let rules = match self.rules {
+            BASIC => String::new(),
+            rules => format!(" Rule set {rules}."),
+        };
+        let left_out = match rows.len() - self.rows.len() {
+            0 => String::new(),
+            number => format!(
+                " Of these {number} reflexive {} not shown.",
+                if number == 1 { "one is" } else { "ones are" }
+            ),
+        };
         let kind = match self.asking.kind {
             Kind::Years { base } => format!("Years {base} to {}.", u32::from(base) + 63),
             Kind::Sheets(sheets) => {
@@ -94,7 +109,7 @@ impl Page<'_> {
              <meta http-equiv=\"Content-Security-Policy\" content=\"default-src 'none'; style-src 'unsafe-inline'\">\n\
              <meta name=\"viewport\" content=\"width=device-width, initial-scale=1\">\n\
              <title>{title}</title>\n<style>\n{STYLE}</style>\n</head>\n<body>\n{HATCH}\
-             <header>\n<h1>{title}</h1>\n<p>{kind} {} in the book, {} from it.</p>\n\
+             <header>\n<h1>{title}</h1>\n<p>{kind}{rules} {} in the book, {} from it.{left_out}</p>\n\
              <p class=\"key\"><span>{}in the book</span><span>{}follows</span></p>\n</header>\n",
             counted(stated, "line is", "lines are"),
             counted(rows.len() - stated, "line follows", "lines follow"),

@@ -1,8 +1,8 @@
 //! The model's calls, in place of the proved library's.
 
 use fitting::calls::{
-    answers, Asked, Book, Calls, Lanes, NameLanes, NameList, Refusal, Table, ANNS, MOST_ANSWERS,
-    TERMS,
+    answers, Asked, Book, Calls, Lanes, NameLanes, NameList, Refusal, RuleSet, Table, ANNS,
+    MOST_ANSWERS, TERMS,
 };
 use trial::ntriples;
 use trial::steps::{Step, MOST_STEPS};
@@ -39,12 +39,14 @@ impl Calls for Model {
         let read = trial::book::read(book, &mut lanes);
         refusal(read.number, read.place)?;
         let rows = ours(lanes).rows(read.count);
-        Ok(Book { base: read.base, table: Table { kind: read.kind, rows } })
+        let rules = RuleSet::try_from(read.rules)?;
+        Ok(Book { base: read.base, rules, table: Table { kind: read.kind, rows } })
     }
 
-    fn close(&self, table: &Table) -> Result<Table, Refusal> {
+    fn close(&self, rules: RuleSet, table: &Table) -> Result<Table, Refusal> {
         let mut lanes = theirs(Lanes::of(&table.rows));
-        let closed = trial::closing::close(table.kind, &mut lanes, table.rows.len());
+        let (kind, rules, count) = (table.kind, rules.number(), table.rows.len());
+        let closed = trial::closing::close(kind, rules, &mut lanes, count);
         refusal(closed.number, closed.place)?;
         Ok(Table { kind: table.kind, rows: ours(lanes).rows(closed.count) })
     }

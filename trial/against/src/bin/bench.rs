@@ -8,13 +8,14 @@
 
 use against::running::Running;
 use against::stored_questions::{ann, con, holder, triple, var, BOTH, EITHER};
-use against::{asking, baseline, calls, catalogue, places, plain_triples, records, slow};
+use against::{asking, baseline, calls, catalogue, places, plain_triples, records};
 use std::hint::black_box;
 use std::path::Path;
 use std::process::{Command, Stdio};
 use std::time::Instant;
 use trial::annotation::LARGER;
 use trial::ntriples::Names;
+use trial::random::slow;
 use trial::steps::{Step, ANNS, MOST_ANSWERS, MOST_STEPS, TERMS};
 use trial::table::{self, Lanes, Row, Triple};
 use trial::term::{DOM, RANGE, SC, SP, TYPE};
@@ -33,19 +34,21 @@ fn annotated(kind: u8, triples: &[Triple]) -> Vec<Row> {
     triples.iter().enumerate().map(|(at, triple)| (*triple, ann(at))).collect()
 }
 
-/// A chain of sc links; 44 of them are 990 rows closed.
+/// A chain of sc links; 44 of them are 990 rows closed, in rule set 2 43 are 992.
 fn chain(links: u16) -> Vec<Triple> {
     (0..links).map(|at| (100 + at, SC, 101 + at)).collect()
 }
 
-/// Things of the leaves of a tree of 20 classes; 190 of them are 1,004 rows closed.
+/// Things of the leaves of a tree of 20 classes; 190 of them are 1,004 rows closed, in rule set 2 185
+/// are 1,002.
 fn types(things: u16) -> Vec<Triple> {
     let mut triples: Vec<Triple> = (1..20).map(|at| (100 + at, SC, 100 + (at - 1) / 2)).collect();
     triples.extend((0..things).map(|at| (1000 + at, TYPE, 100 + 15 + at % 5)));
     triples
 }
 
-/// Uses of a chain of properties with domains and ranges; 120 of them are 971 rows closed.
+/// Uses of a chain of properties with domains and ranges; 120 of them are 971 rows closed, in rule set
+/// 2 122 are 1,001.
 fn web(uses: u16) -> Vec<Triple> {
     let mut triples = vec![(20, SP, 21), (21, SP, 22), (22, SP, 16_384)];
     triples.extend([
@@ -72,13 +75,13 @@ fn best(mut work: impl FnMut()) -> f64 {
 }
 
 /// Rounds, and conclusions drawn in them, of the plainest way.
-fn work_done(kind: u8, rows: &[Row]) -> (usize, usize) {
+fn work_done(kind: u8, rules: u8, rows: &[Row]) -> (usize, usize) {
     let mut map = rows.iter().copied().collect();
     let (mut rounds, mut drawn) = (0, 0);
     loop {
         let rows: Vec<Row> =
             std::collections::BTreeMap::iter(&map).map(|(t, a)| (*t, *a)).collect();
-        let conclusions = closing::conclusions(kind, &rows);
+        let conclusions = closing::conclusions(kind, rules, &rows);
         rounds += 1;
         drawn += conclusions.len();
         let mut changed = false;
@@ -91,24 +94,24 @@ fn work_done(kind: u8, rows: &[Row]) -> (usize, usize) {
     }
 }
 
-fn measure(name: &str, kind: u8, triples: &[Triple]) {
+fn measure(name: &str, kind: u8, rules: u8, triples: &[Triple]) {
     let rows = annotated(kind, triples);
     let mut filled = Lanes::zero(1024);
     table::fill(&mut filled, &rows);
     let mut lanes = filled.clone();
-    let closed = calls::close(kind, &mut lanes, rows.len());
-    let (plain_rows, _) = baseline::close(kind, &rows);
-    assert_eq!(table::rows(&lanes, closed.count), plain_rows, "{name}, kind {kind}");
+    let closed = calls::close(kind, rules, &mut lanes, rows.len());
+    let (plain_rows, _) = baseline::close(kind, rules, &rows);
+    assert_eq!(table::rows(&lanes, closed.count), plain_rows, "{name}, kind {kind}, {rules}");
     let proved = best(|| {
         lanes.clone_from(&filled);
-        black_box(calls::close(kind, &mut lanes, rows.len()));
+        black_box(calls::close(kind, rules, &mut lanes, rows.len()));
     });
     let plain = best(|| {
-        black_box(baseline::close(kind, black_box(&rows)));
+        black_box(baseline::close(kind, rules, black_box(&rows)));
     });
-    let (rounds, drawn) = work_done(kind, &rows);
+    let (rounds, drawn) = work_done(kind, rules, &rows);
     println!(
-        "{name:6} {kind:4} {:5} {:7} {rounds:7} {drawn:7} {proved:12.0} {plain:12.0} {:8.2}",
+        "{name:6} {rules:5} {kind:4} {:5} {:7} {rounds:7} {drawn:7} {proved:12.0} {plain:12.0} {:8.2}",
         rows.len(),
         closed.count,
         proved / plain
@@ -116,22 +119,22 @@ fn measure(name: &str, kind: u8, triples: &[Triple]) {
 }
 
 /// A book made to be slow: the same, without the plainest way, which would take too long.
-fn measure_slow(name: &str, order: &str, kind: u8, rows: &[Row]) {
+fn measure_slow(name: &str, order: &str, kind: u8, rules: u8, rows: &[Row]) {
     let mut filled = Lanes::zero(1024);
     table::fill(&mut filled, rows);
     let mut lanes = filled.clone();
-    let closed = calls::close(kind, &mut lanes, rows.len());
-    let (plain_rows, _) = baseline::close(kind, rows);
-    assert_eq!(table::rows(&lanes, closed.count), plain_rows, "{name} {order}, kind {kind}");
+    let closed = calls::close(kind, rules, &mut lanes, rows.len());
+    let (plain_rows, _) = baseline::close(kind, rules, rows);
+    assert_eq!(table::rows(&lanes, closed.count), plain_rows, "{name} {order}, {kind}, {rules}");
     let proved = best(|| {
         lanes.clone_from(&filled);
-        black_box(calls::close(kind, &mut lanes, rows.len()));
+        black_box(calls::close(kind, rules, &mut lanes, rows.len()));
     });
     let plain = best(|| {
-        black_box(baseline::close(kind, black_box(rows)));
+        black_box(baseline::close(kind, rules, black_box(rows)));
     });
     println!(
-        "{name:16} {order:8} {kind:5} {:5} {:7} {proved:12.0} {plain:12.0} {:8.2}",
+        "{name:16} {order:8} {rules:6} {kind:5} {:5} {:7} {proved:12.0} {plain:12.0} {:8.2}",
         rows.len(),
         closed.count,
         proved / plain
@@ -218,7 +221,7 @@ fn measure_reading(rows: u16) {
     let mut rows = annotated(3, &workshop(rows));
     // Not in table order: every third row first.
     rows.sort_by_key(|((subj, ..), _)| subj % 3);
-    let bytes = book::bytes_of(3, 0, &rows);
+    let bytes = book::bytes_of(3, 0, 1, &rows);
     let mut lanes = Lanes::zero(1024);
     let proved = best(|| {
         black_box(calls::read(black_box(&bytes), &mut lanes));
@@ -244,7 +247,7 @@ fn measure_placing(order: &str, rows: u16) {
     let adding = best(|| {
         rows.iter().fold(0, |count, row| calls::add(3, &mut lanes, count, *row).count);
     });
-    let bytes = book::bytes_of(3, 0, &rows);
+    let bytes = book::bytes_of(3, 0, 1, &rows);
     let reading = best(|| {
         black_box(calls::read(black_box(&bytes), &mut lanes));
     });
@@ -348,26 +351,50 @@ fn measure_processes(lines: usize, entries: usize) {
     }
 }
 
-fn main() {
-    println!("table  kind  rows  closed  rounds   drawn   proved, us    plain, us    ratio");
-    for kind in [1, 3, 4, 5] {
-        measure("chain", kind, &chain(44));
-        measure("types", kind, &types(190));
-        measure("web", kind, &web(120));
+/// Tables that close to about 100, 300 and 1,000 rows, then the last of them in every kind.
+fn measure_closing(rules: u8, sizes: [(u16, u16, u16); 3]) {
+    for (links, things, uses) in sizes {
+        measure("chain", 1, rules, &chain(links));
+        measure("types", 1, rules, &types(things));
+        measure("web", 1, rules, &web(uses));
     }
-    for (links, things, uses) in [(13, 10, 11), (24, 50, 36), (44, 190, 120)] {
-        measure("chain", 1, &chain(links));
-        measure("types", 1, &types(things));
-        measure("web", 1, &web(uses));
+    let [.., (links, things, uses)] = sizes;
+    for kind in [3, 4, 5] {
+        measure("chain", kind, rules, &chain(links));
+        measure("types", kind, rules, &types(things));
+        measure("web", kind, rules, &web(uses));
     }
-    println!("\nmade to be slow  order     kind  rows  closed   proved, us    plain, us    ratio");
+}
+
+/// One of the books made to be slow, of this size, or of the largest under it whose closure fits: in
+/// rule set 2 there are up to 1.6 times as many rows.
+fn largest(order: &str, at: usize, rules: u8, size: u16) -> (&'static str, u8, Vec<Row>) {
+    let sizes = (16..=size).rev().step_by(10);
+    let mut books = sizes.map(|size| slow::books(order, size).swap_remove(at));
+    let fits = |book: &(_, u8, Vec<Row>)| baseline::close(book.1, rules, &book.2).0.len() <= 1024;
+    books.find(fits).expect("the smallest fits")
+}
+
+fn measure_made_slow(rules: u8) {
     for size in [64, 250, 1000] {
         for order in slow::ORDERS {
-            for (name, kind, rows) in slow::books(order, size) {
-                measure_slow(name, order, kind, &rows);
+            for at in 0..slow::books(order, size).len() {
+                let (name, kind, rows) = largest(order, at, rules, size);
+                measure_slow(name, order, kind, rules, &rows);
             }
         }
     }
+}
+
+fn main() {
+    println!("table  rules kind  rows  closed  rounds   drawn   proved, us    plain, us    ratio");
+    measure_closing(1, [(13, 10, 11), (24, 50, 36), (44, 190, 120)]);
+    measure_closing(2, [(13, 5, 10), (23, 45, 35), (43, 185, 122)]);
+    println!(
+        "\nmade to be slow  order     rules  kind  rows  closed   proved, us    plain, us    ratio"
+    );
+    measure_made_slow(1);
+    measure_made_slow(2);
     println!("\nwhat                                   size   proved, us    plain, us    ratio");
     for rows in [100, 300, 1000] {
         measure_asking("join on the subject", rows, &on_vans());

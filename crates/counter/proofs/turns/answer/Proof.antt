@@ -14,7 +14,7 @@ returns c =
     let the-part-of = c .before .before .before .before .before .before .part-of in
     let the-if1 = c .before .before .before .before .if1 in
     let the-no-question = c .before .before .no-question in
-    turn-none (the-args .looks) (the-args .kind) (lanes (the-args .subj .now) (the-args .pred .now) (the-args .obj .now) (the-args .ann .now)) (the-args .count) (the-pre .0) (the-args .s .now) (the-part-of .result .ended) (the-part-of .result .end) (the-args .out .now) _ _
+    turn-none (the-args .looks) (the-args .kind) (the-args .rules) (the-pre .4) (lanes (the-args .subj .now) (the-args .pred .now) (the-args .obj .now) (the-args .ann .now)) (the-args .count) (the-pre .0) (the-args .s .now) (the-part-of .result .ended) (the-part-of .result .end) (the-args .out .now) _ _
     (rw (not-true (the-part-of .result .whole) (the-if1 .taken)) at (the-part-of .ensures)) _ _ _ (the-no-question .ensures)
 
 returns-2 : tie.Need-returns-2
@@ -26,7 +26,7 @@ returns-2 c =
     let the-close = c .before .before .before .before .before .before .before .before .before .before .before .before .before .before .close in
     let the-if2 = c .before .before .before .before .if2 in
     let the-put-refused = c .before .before .put-refused in
-    turn-full (the-args .looks) (the-args .kind) (lanes (the-args .subj .now) (the-args .pred .now) (the-args .obj .now) (the-args .ann .now)) (the-args .count) (the-pre .0) (the-args .s .now) (the-part-of .result .ended) (the-part-of .result .end) (the-args .out .now) _ _
+    turn-full (the-args .looks) (the-args .kind) (the-args .rules) (the-pre .4) (lanes (the-args .subj .now) (the-args .pred .now) (the-args .obj .now) (the-args .ann .now)) (the-args .count) (the-pre .0) (the-args .s .now) (the-part-of .result .ended) (the-part-of .result .end) (the-args .out .now) _ _
     (rw (not-false (the-part-of .result .whole) (the-if1 .left)) at (the-part-of .ensures)) _ _ _ _ (the-close .ensures) (the-if2 .taken) (the-pre .3) _ (the-put-refused .ensures)
 
 sub-ask-listed : tie.Need-sub-ask-listed
@@ -55,7 +55,7 @@ ask-listed-requires c κs =
     let the-if1 = c .before .before .before .before .before .before .before .before .before .before .before .before .before .before .before .before .before .before .before .before .before .before .before .if1 in
     let the-close = c .before .before .before .before .before .before .before .before .before .before .before .before .before .before .before .before .before .before .close in
     let the-if2 = c .before .before .before .before .before .before .before .before .if2 in (
-      closed-ready (the-args .looks) (the-args .kind) (lanes (the-args .subj .now) (the-args .pred .now) (the-args .obj .now) (the-args .ann .now)) (the-args .count) (the-pre .0) (the-args .s .now) (the-part-of .result .ended) (the-part-of .result .end) (the-args .out .now) (the-args .out .now) 0
+      closed-ready (the-args .looks) (the-args .kind) (the-args .rules) (the-pre .4) (lanes (the-args .subj .now) (the-args .pred .now) (the-args .obj .now) (the-args .ann .now)) (the-args .count) (the-pre .0) (the-args .s .now) (the-part-of .result .ended) (the-part-of .result .end) (the-args .out .now) (the-args .out .now) 0
           (rw (not-false (the-part-of .result .whole) (the-if1 .left)) at (the-part-of .ensures)) _ _ _ _ (the-close .ensures) (the-if2 .left),
       the-pre .1,
       the-pre .2,
@@ -71,7 +71,7 @@ returns-3 c =
     let the-close = c .before .before .before .before .before .before .before .before .before .before .before .before .before .before .before .before .before .before .before .before .before .before .before .before .before .close in
     let the-if2 = c .before .before .before .before .before .before .before .before .before .before .before .before .before .before .before .if2 in
     let the-ask-listed = c .before .before .before .before .before .before .ask-listed in
-    turn-asked (the-args .looks) (the-args .kind) (lanes (the-args .subj .now) (the-args .pred .now) (the-args .obj .now) (the-args .ann .now)) (the-args .count) (the-pre .0) (the-args .s .now) (the-part-of .result .ended) (the-part-of .result .end) (the-args .out .now) _ _
+    turn-asked (the-args .looks) (the-args .kind) (the-args .rules) (the-pre .4) (lanes (the-args .subj .now) (the-args .pred .now) (the-args .obj .now) (the-args .ann .now)) (the-args .count) (the-pre .0) (the-args .s .now) (the-part-of .result .ended) (the-part-of .result .end) (the-args .out .now) _ _
     (rw (not-false (the-part-of .result .whole) (the-if1 .left)) at (the-part-of .ensures)) _ _ _ _ (the-close .ensures) (the-if2 .left)
     (the-ask-listed .ensures)
 

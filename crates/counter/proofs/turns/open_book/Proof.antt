@@ -16,7 +16,7 @@ returns c =
     let the-if1 = c .before .before .before .before .before .if1 in
     rw (the-no-table .ensures .0, the-no-table .ensures .1)
     (open-short (the-args .s .now) (the-part-of .result .ended) (the-part-of .result .end) (the-args .out .now) (the-pre .1) _ (the-put-refused .result)
-    (rw (not-true (the-part-of .result .whole) (the-if1 .taken)) at (the-part-of .ensures)) _ _ _ (the-put-refused .ensures))
+    (rw (not-true (the-part-of .result .whole) (the-if1 .taken)) at (the-part-of .ensures)) _ _ _ _ (the-put-refused .ensures))
 
 sub-read : tie.Need-sub-read
 sub-read c =
@@ -48,8 +48,8 @@ returns-2 c =
     let the-if2 = c .before .before .before .before .before .if2 in
     rw (the-no-table2 .ensures .0, the-no-table2 .ensures .1)
     (open-unread (the-args .s .now) (the-part-of .result .ended) (the-part-of .result .end) (the-args .out .now) (the-pre .1) _ (the-put-refused2 .result)
-    (rw (not-false (the-part-of .result .whole) (the-if1 .left)) at (the-part-of .ensures)) _ _ _ _ _ _ (rw (the-pre .0) at (the-read .ensures))
-    (the-if2 .taken) _ _ _ (the-put-refused2 .ensures))
+    (rw (not-false (the-part-of .result .whole) (the-if1 .left)) at (the-part-of .ensures)) _ _ _ _ _ _ _ (rw (the-pre .0) at (the-read .ensures))
+    (the-if2 .taken) _ _ _ _ (the-put-refused2 .ensures))
 
 returns-3 : tie.Need-returns-3
 returns-3 c =
@@ -60,7 +60,7 @@ returns-3 c =
     let the-read = c .before .before .before .before .before .before .before .before .before .before .read in
     let the-if2 = c .if2 in
     open-done (the-args .s .now) (the-part-of .result .ended) (the-part-of .result .end) (the-args .out .now) (the-pre .1) (the-args .out .now) 0
-    (rw (not-false (the-part-of .result .whole) (the-if1 .left)) at (the-part-of .ensures)) _ _ _ _ _ _ (rw (the-pre .0) at (the-read .ensures))
+    (rw (not-false (the-part-of .result .whole) (the-if1 .left)) at (the-part-of .ensures)) _ _ _ _ _ _ _ (rw (the-pre .0) at (the-read .ensures))
     (the-if2 .left)
 
 pub open-book-spec : {M : Type 1} → statement M

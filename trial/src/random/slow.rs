@@ -1,10 +1,11 @@
 //! Books made to make closing slow: what they give comes one row, or one year, after another, in an
 //! order of the terms' numbers that a round cannot follow.
 
+use super::{with, Random};
+use crate::annotation;
+use crate::table::{Row, Triple};
+use crate::term::{DOM, SC, SP, TYPE};
 use std::collections::BTreeMap;
-use trial::random::Random;
-use trial::table::{Row, Triple};
-use trial::term::{DOM, SC, SP, TYPE};
 
 /// The orders in which the rungs of a ladder are numbered.
 pub const ORDERS: [&str; 4] = ["up", "down", "turns", "shuffled"];
@@ -107,8 +108,10 @@ fn serial(rungs: &[u16]) -> Vec<Row> {
     rows.into_iter().collect()
 }
 
-/// The books of a size, its closures up to about that many rows: a name, the kind, the rows.
+/// The books of a size, which is 16 or more; their closures in rule set 1 have up to about that many
+/// rows: a name, the kind, the rows.
 pub fn books(order: &str, size: u16) -> Vec<(&'static str, u8, Vec<Row>)> {
+    let size = size.max(16);
     let links = rungs(order, (f64::from(size) * 2.0).sqrt() as u16 - 2);
     let mut classes = vec![(3000, TYPE, links[0])];
     classes.extend(links.windows(2).map(|two| (two[0], SC, two[1])));
@@ -126,4 +129,33 @@ pub fn books(order: &str, size: u16) -> Vec<(&'static str, u8, Vec<Row>)> {
         ("ring", 4, ring(f64::from(size).sqrt() as u16 - 1)),
         ("grid of 5", 1, sorted(1, ways(size / 4))),
     ]
+}
+
+/// A small book of one of these makes in any kind: years rising one by one are then degrees, or
+/// combinations of sheets.
+pub fn small(random: &mut Random, kind: u8) -> Vec<Row> {
+    let order = random.pick(&ORDERS);
+    let size = random.from_to(16, 60) as u16;
+    let mut books = books(order, size);
+    books.retain(|(_, of, _)| *of == kind || *of == 1);
+    let at = random.below(books.len());
+    let Some((_, of, mut rows)) = books.into_iter().nth(at) else {
+        return Vec::new();
+    };
+    for (_, ann) in rows.iter_mut().filter(|_| of != kind) {
+        *ann = of_years(kind, *ann);
+    }
+    rows
+}
+
+/// What stands in another kind for the years of a row of these books: the top for all of them, else
+/// by the first of them.
+fn of_years(kind: u8, years: u64) -> u64 {
+    let first = years.trailing_zeros().min(63);
+    match kind {
+        _ if years == u64::MAX => annotation::top(kind),
+        3 | 4 => 40 + 15 * u64::from(first),
+        5 => with(first as usize),
+        _ => years,
+    }
 }
