@@ -1,15 +1,15 @@
--- A row's plans are sure, a round that changed nothing leaves a closed table, and rounds come to an end: for every set of rules that plans drive
+-- A row's plans are sure, a table where nothing waits is closed, and rounds come to an end: for every set of rules that plans drive
 -- and that stay obeyed where nothing they meet rises.
 -- Assumes nothing.
 use mathlib.Core.Path.{_≡_, refl, sym, subst, subst₂, _∙_}
 use mathlib.Core.Bool.{Bool, true, false, true≢false}
 use mathlib.Core.List.{List}
 use mathlib.Core.Logic.{_⊎_, inl, inr, ⊎-elim}
-use Prim.Native.Nat.{ℕ, zero, suc, _+_, _-_, _≤_, _<_}
+use Prim.Native.Nat.{ℕ, zero, suc, _+_, _-_, _*_, _≤_, _<_}
 use native.Mathlib.Omega.{arith}
 use lib.ListN.{length, replicate, length-replicate}
 use Rattle.ground.specs.Lists.{All}
-use Rattle.term.specs.Term.{sp}
+use Rattle.term.specs.Term.{sp, dom, range}
 use Rattle.annotation.specs.Kinds.{algebra}
 use Rattle.annotation.proofs.KindLaws.{laws}
 use Rattle.table.specs.Rows.{Lanes, Triple, triple, rowAt, rowsOf, total}
@@ -22,32 +22,34 @@ use Rattle.rhodf.specs.Graph.{graphOf}
 use Rattle.rhodf.specs.Rules.{Rules}
 use Rattle.rhodf.specs.Closure.{Closed}
 use Rattle.rhodf.proofs.Growing.{rows-valued}
-use Rattle.termset.specs.Termset.{holds, words, Among}
-use Rattle.termset.proofs.Holding.{among-self, among-trans, holds-all}
+use Rattle.termset.specs.Termset.{holds, words, Among, Without}
+use Rattle.termset.proofs.Holding.{not-among, holds-all}
+use Rattle.termset.proofs.Counting.{members, members-most, members-fall}
 use Rattle.plans.specs.declared.Plan.{Plan}
 use Rattle.plans.specs.Plans.{offPlan, planAt, LegalPlan, Obeyed}
 use Rattle.plans.proofs.Meeting.{all-at, all-from, obeyed-lower}
 use Rattle.plans.proofs.Driven.{Driven, AllObeyed}
 use Rattle.walks.specs.Rising.{Risen, Drew, Either}
 use Rattle.walks.specs.Walks.{Known, Planned, Walked}
-use Rattle.walks.proofs.Rising.{some-either, risen-none, risen-then, drew-none, drew-so, drew-among, Passed, turn}
+use Rattle.walks.proofs.Rising.{which, some-either, risen-none, risen-then, drew-none, drew-so, drew-among, Passed, turn}
 use Rattle.walks.proofs.Neighbours.{row-value, row-below}
 use Rattle.walks.proofs.Walking.{planned-later}
-use Rattle.rounds.specs.Due.{Still, Quiet, OfRow, Sets, RoseAt, Marked, RowsOfThree, ToCome, NotBefore, First, Onward, Spread}
-use Rattle.rounds.specs.Rounds.{tripleAt, RowObeyed, RowOfTable, RowDrawn, RowAsked, RoundDue, RoundDrawn, Saturated}
+use Rattle.rounds.specs.Due.{Still, Idle, Typed, Quiet, OfRow, Sets, RoseAt, Marked, RowsOfThree, ToCome, NotBefore, First, Onward, Spread, Aimed, Chosen}
+use Rattle.rounds.specs.Rounds.{tripleAt, RowObeyed, RowOfTable, RowDrawn, RowAsked, RoundDue, RoundDrawn, Waiting, Saturated}
 use Rattle.rounds.proofs.Staying.{OfTriple, Staying}
-use Rattle.rounds.proofs.Settling.{Moved, still-before, Settled, settled-on}
+use Rattle.rounds.proofs.Settling.{Moved, Settled, settled-on}
 
 -- plan k of row i of l is obeyed in another table
 abbrev pub PlanPassed : (Triple → List Plan) → ℕ → Lanes → ℕ → Lanes → ℕ → ℕ → Type 0
 PlanPassed plans kind l i m n k = Obeyed (algebra kind) (graphOf (rowsOf m n)) (planAt (plans (tripleAt l i)) k) (rowAt l i .a)
 
 -- what a round has done, where the rows To of the table as it is are to come
-pub record SoFar (R : Rules) (plans : Triple → List Plan) (kind : ℕ) (due₀ : List ℕ) (l : Lanes) (n : ℕ) (m : Lanes) (changed : Bool) (n₁ : ℕ) (due rose : List ℕ) (To : ℕ → Type 0) : Type 0 where
-  pub drew : Drew R kind (λ x. Unit {0}) ((k : ℕ) → k < n → (To k → Still due₀ (tripleAt l k)) → RowObeyed plans kind l n k) l n m false changed n₁
-  pub due-more : Among due₀ due
+pub record SoFar (R : Rules) (plans : Triple → List Plan) (turn one kind : ℕ) (l : Lanes) (n : ℕ) (m : Lanes) (changed : Bool) (n₁ : ℕ)
+    (due rose₀ rose : List ℕ) (To : ℕ → Type 0) : Type 0 where
+  pub risen : Risen R kind l n m false changed n₁
   pub sets : Sets due rose
-  pub settled : Settled plans kind due rose To m n₁
+  pub same : changed ≡ false → rose ≡ rose₀
+  pub settled : Settled plans turn one kind due rose To m n₁
 
 pub rows-of-fewer : {kind : ℕ} {l : Lanes} {n i : ℕ} → Sound kind l n → i ≤ n → RowsOfThree (l .subj) (l .pred) (l .obj) i
 rows-of-fewer sound h = record {
@@ -83,17 +85,34 @@ onward-comes grew o j k place apart t = record {
   down = λ e. omega (arith, grew, o .down e, place .high, apart, t .1 .down e);
 }
 
--- what rounds have done
-pub record Rounded (R : Rules) (plans : Triple → List Plan) (kind : ℕ) (l : Lanes) (n : ℕ) (m : Lanes) (n₁ : ℕ) (due rose : List ℕ) : Type 0 where
+-- what sweeps have done, while some are left
+pub record Swept (R : Rules) (plans : Triple → List Plan) (kind : ℕ) (l : Lanes) (n : ℕ) (m : Lanes) (n₁ : ℕ) (due rose : List ℕ) (left : ℕ) : Type 0 where
   pub changed : Bool
   pub risen : Risen R kind l n m false changed n₁
-  pub rows : RoundDue plans kind m n₁ due
   pub sets : Sets due rose
+  pub settled : (j : ℕ) → j < n₁ → Still due (tripleAt m j) → RowObeyed plans kind m n₁ j
+  pub some : 0 < left
+
+-- what has been done subject after subject
+pub record Settling (R : Rules) (plans : Triple → List Plan) (kind : ℕ) (l : Lanes) (n : ℕ) (m : Lanes) (n₁ : ℕ) (due rose seen : List ℕ) : Type 0 where
+  pub changed : Bool
+  pub risen : Risen R kind l n m false changed n₁
+  pub waiting : Waiting plans kind m n₁ due rose
+  pub seen-long : length seen ≡ words
+
+-- what is left of it: the sum of annotations cannot pass its bound, and while it stays as it is, a subject less waits
+abbrev pub settleLeft : Lanes → ℕ → List ℕ → ℕ
+settleLeft m n rose = (mostTotal - total (rowsOf m n)) * 65537 + members rose
 
 -- a row that meets nothing of the set that was spread meets nothing that rose
 spread-quiet : (m : Lanes) {n : ℕ} {rose rose′ : List ℕ} → Spread (m .subj) (m .pred) (m .obj) n rose rose′ → (t : Triple) → Still rose′ t
     → Quiet rose (graphOf (rowsOf m n)) t
-spread-quiet m {n} {rose} {rose′} s t still = record { still = still-before (s .more) still; behind = λ z h. go z (held-row n (rowAt m) (triple (t .p) sp z) h) (holds rose z) refl }
+spread-quiet m {n} {rose} {rose′} s t still = record {
+  self = not-among (s .more) (t .s) (still .self);
+  by-predicate = λ r w h. not-among (s .more) (t .p) (still .by-predicate);
+  by-object = λ d r w h. not-among (s .more) (t .o) (still .by-object d);
+  behind = λ z h k. go z (held-row n (rowAt m) (triple (t .p) sp z) h) (holds rose z) refl;
+}
   where
     go : (z : ℕ) → RowHeld n (rowAt m) (triple (t .p) sp z) → (b : Bool) → holds rose z ≡ b → holds rose z ≡ false
     go z f true e =
@@ -101,6 +120,82 @@ spread-quiet m {n} {rose} {rose′} s t still = record { still = still-before (s
         let h = s .behind (f .at) (f .within) (r .same-p) (rw (r .same-o) e) in
         absurd (true≢false (sym (rw (r .same-s) at h) ∙ still .by-predicate))
     go z f false e = e
+
+-- where no row has a subject of the set, every row is quiet
+rows-quiet : (m : Lanes) {n : ℕ} {rose : List ℕ} → ((j : ℕ) → j < n → holds rose (rowAt m j .s) ≡ false) → (i : ℕ) → i < n → Quiet rose (graphOf (rowsOf m n)) (tripleAt m i)
+rows-quiet m {n} {rose} none i h = record {
+  self = none i h;
+  by-predicate = λ r w k. of (rowAt m i .p) r w k;
+  by-object = λ d r w k. of (rowAt m i .o) r w k;
+  behind = λ z k t. ⊎-elim (of z dom (t .0)) (of z range (t .0)) (t .1);
+}
+  where
+    of : (z r w : ℕ) → 0 < graphOf (rowsOf m n) (triple z r w) → holds rose z ≡ false
+    of z r w k =
+        let f = held-row n (rowAt m) (triple z r w) k in
+        rw (← f .is-row .same-s) (none (f .at) (f .within))
+
+-- the two ways of aiming
+module _ (m : Lanes) {n one : ℕ} {due : List ℕ} where
+  pub aimed-set : {due′ : List ℕ} → length due ≡ words → holds due one ≡ true → Spread (m .subj) (m .pred) (m .obj) n due due′ → Aimed m n one due′ 1
+  aimed-set long there s = record {
+    long = s .more .long ∙ long;
+    there = λ _. s .more .also one there;
+    below = λ _ j h p o. s .behind j h p (rw o there);
+    alone = λ h. absurd (omega arith);
+  }
+
+  pub aimed-one : length due ≡ words → (Typed (graphOf (rowsOf m n)) one → ⊥) → Aimed m n one due 2
+  aimed-one long none = record { long = long; there = λ h. absurd (omega arith); below = λ h. absurd (omega arith); alone = λ _. none }
+
+-- one subject is taken out of the set, and the rows that can meet one of it are due
+module _ (m : Lanes) (n one turn : ℕ) {due rose rose′ : List ℕ} (a : Aimed m n one due turn) (w : Without one rose rose′) where
+  -- another that is not in the set now was not
+  spared : (z : ℕ) → (z ≡ one → ⊥) → holds rose′ z ≡ false → holds rose z ≡ false
+  spared z apart out = go (holds rose z) refl
+    where
+      go : (b : Bool) → holds rose z ≡ b → holds rose z ≡ false
+      go true e = ⊎-elim (λ q. absurd (apart q)) (λ q. absurd (true≢false (sym q ∙ out))) (w .others z e)
+      go false e = e
+
+  record Clear (t : Triple) : Type 0 where
+    self : t .s ≡ one → ⊥
+    by-predicate : t .p ≡ one → ⊥
+    by-object : t .p < dom → t .o ≡ one → ⊥
+    behind : (z : ℕ) → 0 < graphOf (rowsOf m n) (triple (t .p) sp z) → Typed (graphOf (rowsOf m n)) z → z ≡ one → ⊥
+
+  in-set : turn ≤ 1 → (z : ℕ) → holds due z ≡ false → z ≡ one → ⊥
+  in-set h z out e = true≢false (sym (a .there h) ∙ (rw e at out))
+
+  clear-by-set : (t : Triple) → turn ≤ 1 → Still due t → Clear t
+  clear-by-set t h i = record {
+    self = in-set h (t .s) (i .self);
+    by-predicate = in-set h (t .p) (i .by-predicate);
+    by-object = λ d. in-set h (t .o) (i .by-object d);
+    behind = λ z k y e.
+        let f = held-row n (rowAt m) (triple (t .p) sp z) k in
+        let r = f .is-row in
+        let in-due = a .below h (f .at) (f .within) (r .same-p) (r .same-o ∙ e) in
+        true≢false (sym (rw (r .same-s) at in-due) ∙ i .by-predicate);
+  }
+
+  idle-clear : (t : Triple) → Idle turn one due t → Tri turn 1 → Clear t
+  idle-clear t i (less h) = clear-by-set t (omega arith) (i .by-set (omega arith))
+  idle-clear t i (same e) = clear-by-set t (omega arith) (i .by-set (omega arith))
+  idle-clear t i (more h) = record {
+    self = i .by-one h .self;
+    by-predicate = i .by-one h .by-predicate;
+    by-object = i .by-one h .by-object;
+    behind = λ z k y e. a .alone h (subst (Typed (graphOf (rowsOf m n))) e y);
+  }
+
+  aimed-quiet : (t : Triple) → Idle turn one due t → Quiet rose′ (graphOf (rowsOf m n)) t → Quiet rose (graphOf (rowsOf m n)) t
+  aimed-quiet t i q = let c = idle-clear t i (tri turn 1) in record {
+    self = spared (t .s) (c .self) (q .self);
+    by-predicate = λ r w h. spared (t .p) (c .by-predicate) (q .by-predicate r w h);
+    by-object = λ d r w h. spared (t .o) (c .by-object d) (q .by-object d r w h);
+    behind = λ z h k. spared z (c .behind z h k) (q .behind z h k);
+  }
 
 module _ {R : Rules} {plans : Triple → List Plan} (driven : Driven R plans) {kind : ℕ} where
   -- every plan of a row, one after another
@@ -164,6 +259,7 @@ module _ {R : Rules} {plans : Triple → List Plan} (driven : Driven R plans) {k
       due-more = k .due-more;
       rose-more = k .rose-more;
       again = k .self;
+      same = k .same;
     }
       where
         rises : changed ≡ true → (x : ℕ) → OfRow (tripleAt l i) other third x → holds rose′ x ≡ true
@@ -172,68 +268,59 @@ module _ {R : Rules} {plans : Triple → List Plan} (driven : Driven R plans) {k
         rises h x (inr (inr w)) = rw (w .1) (k .above h (w .0))
 
   -- every row that is due, one after another: at first all are to come
-  pub round-start : {l : Lanes} {n : ℕ} {due rose : List ℕ} {To : ℕ → Type 0} → RoundDue plans kind l n due → Sets due rose → ((j : ℕ) → j < n → To j)
-      → SoFar R plans kind due l n l false n due rose To
-  round-start {l} {n} {due} {rose} {To} d sets all = record {
-    drew = drew-none (d .sound) (λ k h w. d .settled k h (w (all k h)));
-    due-more = among-self due;
+  pub round-start : {turn one : ℕ} {l : Lanes} {n : ℕ} {due rose : List ℕ} {To : ℕ → Type 0} → RoundDue plans turn one kind l n due rose → Sets due rose
+      → ((j : ℕ) → j < n → To j) → SoFar R plans turn one kind l n l false n due rose rose To
+  round-start d sets all = record {
+    risen = risen-none (d .sound);
     sets = sets;
-    settled = λ j h q w. d .settled j h (w (all j h));
+    same = λ _. refl;
+    settled = λ j h q w. d .settled j h (w (all j h)) q;
   }
 
   -- rows that are not due are left alone
-  pub round-skip : {due₀ : List ℕ} {l : Lanes} {n : ℕ} {m : Lanes} {c : Bool} {n₁ : ℕ} {due rose : List ℕ} {To To′ : ℕ → Type 0}
-      → SoFar R plans kind due₀ l n m c n₁ due rose To → ((j : ℕ) → j < n₁ → To j → To′ j ⊎ Still due (tripleAt m j)) → SoFar R plans kind due₀ l n m c n₁ due rose To′
-  round-skip {due₀} {l} {n} {m} {c} {n₁} {due} {rose} {To} {To′} s left = record {
-    drew = drew-so (s .drew) (λ em en p k h w. p k h (λ t. ⊎-elim w (λ still. still-before (s .due-more) (subst (λ (x : Lanes). Still due (tripleAt x k)) em still)) (left k (rw en h) t)));
-    due-more = s .due-more;
+  pub round-skip : {turn one : ℕ} {l : Lanes} {n : ℕ} {m : Lanes} {c : Bool} {n₁ : ℕ} {due rose₀ rose : List ℕ} {To To′ : ℕ → Type 0}
+      → SoFar R plans turn one kind l n m c n₁ due rose₀ rose To → ((j : ℕ) → j < n₁ → To j → To′ j ⊎ Idle turn one due (tripleAt m j))
+      → SoFar R plans turn one kind l n m c n₁ due rose₀ rose To′
+  round-skip s left = record {
+    risen = s .risen;
     sets = s .sets;
-    settled = λ j h quiet w. s .settled j h quiet (λ t. ⊎-elim w (λ still. still) (left j h t));
+    same = s .same;
+    settled = λ j h quiet w. s .settled j h quiet (λ t. ⊎-elim w (λ idle. idle) (left j h t));
   }
 
-  module _ (staying : Staying plans) {due₀ : List ℕ} {l : Lanes} {n : ℕ} {m : Lanes} {c : Bool} {n₁ : ℕ} {due rose : List ℕ} {To : ℕ → Type 0} {i : ℕ}
-      (s : SoFar R plans kind due₀ l n m c n₁ due rose To) {m₂ : Lanes} {f₂ c₂ : Bool} {n₂ : ℕ} {due₂ rose₂ : List ℕ} {c₃ : Bool}
+  module _ (staying : Staying plans) {turn one : ℕ} {l : Lanes} {n : ℕ} {m : Lanes} {c : Bool} {n₁ : ℕ} {due rose₀ rose : List ℕ} {To : ℕ → Type 0} {i : ℕ}
+      (s : SoFar R plans turn one kind l n m c n₁ due rose₀ rose To) {m₂ : Lanes} {f₂ c₂ : Bool} {n₂ : ℕ} {due₂ rose₂ : List ℕ} {c₃ : Bool}
       (a : RowAsked R plans kind m n₁ i m₂ f₂ c₂ n₂ due due₂ rose rose₂) (e : Either c c₂ c₃) where
+    asked-sets : Sets due₂ rose₂
+    asked-sets = record { due-long = a .due-more .long ∙ s .sets .due-long; rose-long = a .rose-more .long ∙ s .sets .rose-long }
+
+    asked-same : c₃ ≡ false → rose₂ ≡ rose₀
+    asked-same z = a .same (e .neither z .1) ∙ s .same (e .neither z .0)
+
     pub round-turn : f₂ ≡ false → {To′ : ℕ → Type 0} → ((j k : ℕ) → Moved n₁ n₂ j k → (j ≡ i → ⊥) → To j → To′ k)
-        → SoFar R plans kind due₀ l n m₂ c₃ n₂ due₂ rose₂ To′
+        → SoFar R plans turn one kind l n m₂ c₃ n₂ due₂ rose₀ rose₂ To′
     round-turn f {To′} comes = record {
-      drew = record { risen = rw (← f) (risen-then (s .drew .risen) (a .drew .risen) e); kept = λ t no. absurd (no tt); inside = λ _ z. still z };
-      due-more = among-trans (s .due-more) (a .due-more);
-      sets = record { due-long = a .due-more .long ∙ s .sets .due-long; rose-long = a .rose-more .long ∙ s .sets .rose-long };
-      settled = settled-on staying (s .drew .risen .sound) a f To To′ comes (s .settled);
+      risen = rw (← f) (risen-then (s .risen) (a .drew .risen) e);
+      sets = asked-sets;
+      same = asked-same;
+      settled = settled-on staying (s .risen .sound) a f To To′ comes (s .settled);
     }
-      where
-        still : c₃ ≡ false → (k : ℕ) → k < n → (To′ k → Still due₀ (tripleAt l k)) → RowObeyed plans kind l n k
-        still z k h w = go (tri k i)
-          where
-            quiet : (c ≡ false) × (c₂ ≡ false)
-            quiet = e .neither z
 
-            same-rows : (m ≡ l) × (n₁ ≡ n)
-            same-rows = s .drew .risen .still (quiet .0)
-
-            other : (k ≡ i → ⊥) → RowObeyed plans kind l n k
-            other apart = s .drew .inside refl (quiet .0) k h (λ t. w (comes k k (record { low = omega arith; high = omega (arith, a .drew .risen .more) }) apart t))
-
-            go : Tri k i → RowObeyed plans kind l n k
-            go (less q) = other (λ p. omega arith)
-            go (same q) = subst₂ (λ (x : Lanes) (y : ℕ). RowObeyed plans kind x y k) (same-rows .0) (same-rows .1)
-                (subst (λ (j : ℕ). RowObeyed plans kind m n₁ j) (sym q) (a .drew .inside f (quiet .1)))
-            go (more q) = other (λ p. omega arith)
-
-    pub round-full : f₂ ≡ true → RoundDrawn R plans kind l n m₂ true c₃ n₂ rose₂
+    pub round-full : f₂ ≡ true → RoundDrawn R plans kind l n m₂ true c₃ n₂ due₂ rose₀ rose₂
     round-full f = record {
-      drew = record { risen = rw (← f) (risen-then (s .drew .risen) (a .drew .risen) e); kept = λ t no. absurd (no tt); inside = λ z. absurd (true≢false z) };
-      long = a .rose-more .long ∙ s .sets .rose-long;
+      risen = rw (← f) (risen-then (s .risen) (a .drew .risen) e);
+      sets = asked-sets;
+      same = asked-same;
       settled = λ z. absurd (true≢false z);
     }
 
   -- none is to come
-  pub round-end : {due₀ : List ℕ} {l : Lanes} {n : ℕ} {m : Lanes} {c : Bool} {n₁ : ℕ} {due rose : List ℕ} {To : ℕ → Type 0}
-      → SoFar R plans kind due₀ l n m c n₁ due rose To → ((j : ℕ) → j < n₁ → To j → ⊥) → RoundDrawn R plans kind l n m false c n₁ rose
+  pub round-end : {turn one : ℕ} {l : Lanes} {n : ℕ} {m : Lanes} {c : Bool} {n₁ : ℕ} {due rose₀ rose : List ℕ} {To : ℕ → Type 0}
+      → SoFar R plans turn one kind l n m c n₁ due rose₀ rose To → ((j : ℕ) → j < n₁ → To j → ⊥) → RoundDrawn R plans kind l n m false c n₁ due rose₀ rose
   round-end s none = record {
-    drew = drew-so (s .drew) (λ _ en p j q. p j q (λ t. absurd (none j (rw en q) t)));
-    long = s .sets .rose-long;
+    risen = s .risen;
+    sets = s .sets;
+    same = s .same;
     settled = λ _ j q quiet. s .settled j q quiet (λ t. absurd (none j q t));
   }
 
@@ -250,48 +337,99 @@ module _ {R : Rules} {plans : Triple → List Plan} (driven : Driven R plans) {k
           (subst (λ (u : Triple). All (λ plan. Obeyed (algebra kind) (graphOf (rowsOf l n)) plan (rowAt l (h .at) .a)) (plans u))
           (λ j. triple (e .same-s j) (e .same-p j) (e .same-o j)) (all (h .at) (h .within)))
 
-  -- ---- round after round
+  -- ---- sweep after sweep
 
   -- at first every row is due
-  pub rounds-start : {l : Lanes} {n : ℕ} {rose : List ℕ} → Sound kind l n → length rose ≡ words → Rounded R plans kind l n l n (replicate 1024 18446744073709551615) rose
-  rounds-start {l} {n} {rose} sound long = record {
+  pub sweeps-start : {l : Lanes} {n : ℕ} {rose : List ℕ} {left : ℕ} → Sound kind l n → length rose ≡ words → 0 < left
+      → Swept R plans kind l n l n (replicate 1024 18446744073709551615) rose left
+  sweeps-start {l} {n} {rose} sound long some = record {
     changed = false;
     risen = risen-none sound;
-    rows = record {
-      sound = sound;
-      settled = λ j h still. absurd (true≢false (sym (holds-all (rowAt l j .s) (legal-small (sound .legal j h) .small-s)) ∙ still .self));
-    };
     sets = record { due-long = length-replicate {A = ℕ} 1024 18446744073709551615; rose-long = long };
+    settled = λ j h still. absurd (true≢false (sym (holds-all (rowAt l j .s) (legal-small (sound .legal j h) .small-s)) ∙ still .self));
+    some = some;
   }
 
-  module _ {l : Lanes} {n : ℕ} {m : Lanes} {n₁ : ℕ} {due rose₀ : List ℕ} (a : Rounded R plans kind l n m n₁ due rose₀)
-      {m₂ : Lanes} {full changed : Bool} {n₂ : ℕ} {rose : List ℕ} (r : RoundDrawn R plans kind m n₁ m₂ full changed n₂ rose) where
-    round-more : (c₃ : Bool) × Risen R kind l n m₂ full c₃ n₂
-    round-more = let e = some-either (a .changed) changed in (e .0, risen-then (a .risen) (r .drew .risen) (e .1))
+  module _ {l : Lanes} {n : ℕ} {m : Lanes} {n₁ : ℕ} {due rose₀ : List ℕ} {left : ℕ} (a : Swept R plans kind l n m n₁ due rose₀ left) where
+    pub sweep-due : {turn one : ℕ} → turn ≤ 1 → RoundDue plans turn one kind m n₁ due rose₀
+    sweep-due h = record { sound = a .risen .sound; settled = λ j q idle quiet. a .settled j q (idle .by-set h) }
 
-    -- the set is spread, and what rose is due in the next round
-    pub rounds-go-on : full ≡ false → {rose′ empty : List ℕ} → Spread (m₂ .subj) (m₂ .pred) (m₂ .obj) n₂ rose rose′ → length empty ≡ words
-        → Rounded R plans kind l n m₂ n₂ rose′ empty
-    rounds-go-on f s long = record {
-      changed = round-more .0;
-      risen = rw (← f) (round-more .1);
-      rows = record { sound = r .drew .risen .sound; settled = λ j h still. r .settled f j h (spread-quiet m₂ s (tripleAt m₂ j) still) };
-      sets = record { due-long = s .more .long ∙ r .long; rose-long = long };
+    module _ {m₂ : Lanes} {full changed : Bool} {n₂ : ℕ} {due₂ rose : List ℕ} (r : RoundDrawn R plans kind m n₁ m₂ full changed n₂ due₂ rose₀ rose) where
+      swept-more : (c₃ : Bool) × Risen R kind l n m₂ full c₃ n₂
+      swept-more = let e = some-either (a .changed) changed in (e .0, risen-then (a .risen) (r .risen) (e .1))
+
+      -- the set is spread, and what rose is due in the next sweep
+      pub sweeps-go-on : full ≡ false → {rose′ empty : List ℕ} {left′ : ℕ} → Spread (m₂ .subj) (m₂ .pred) (m₂ .obj) n₂ rose rose′ → length empty ≡ words → 0 < left′
+          → Swept R plans kind l n m₂ n₂ rose′ empty left′
+      sweeps-go-on f s long some = record {
+        changed = swept-more .0;
+        risen = rw (← f) (swept-more .1);
+        sets = record { due-long = s .more .long ∙ r .sets .rose-long; rose-long = long };
+        settled = λ j h still. r .settled f j h (spread-quiet m₂ s (tripleAt m₂ j) still);
+        some = some;
+      }
+
+      pub sweeps-full : full ≡ true → Saturated R kind l n m₂ true n₂
+      sweeps-full f = record { changed = swept-more .0; risen = rw (← f) (swept-more .1); closed = λ z. absurd (true≢false z) }
+
+      -- what rose in the last one waits
+      pub sweeps-end : full ≡ false → Waiting plans kind m₂ n₂ due₂ rose
+      sweeps-end f = record { sound = r .risen .sound; sets = r .sets; settled = r .settled f }
+
+      pub sweeps-settled : full ≡ false → {m₃ : Lanes} {f₃ : Bool} {n₃ : ℕ} → Saturated R kind m₂ n₂ m₃ f₃ n₃ → Saturated R kind l n m₃ f₃ n₃
+      sweeps-settled f s = let e = some-either (swept-more .0) (s .changed) in record {
+        changed = e .0;
+        risen = risen-then (rw (← f) (swept-more .1)) (s .risen) (e .1);
+        closed = s .closed;
+      }
+
+  -- ---- subject after subject
+
+  pub settling-start : {l : Lanes} {n : ℕ} {due rose seen : List ℕ} → Waiting plans kind l n due rose → length seen ≡ words → Settling R plans kind l n l n due rose seen
+  settling-start w long = record { changed = false; risen = risen-none (w .sound); waiting = w; seen-long = long }
+
+  module _ {l : Lanes} {n : ℕ} {m : Lanes} {n₁ : ℕ} {due rose seen : List ℕ} (a : Settling R plans kind l n m n₁ due rose seen) where
+    pub settling-end : {at : ℕ} → Chosen (m .subj) n₁ rose at → n₁ ≤ at → Saturated R kind l n m false n₁
+    settling-end c h = record {
+      changed = a .changed;
+      risen = a .risen;
+      closed = λ _. rows-closed m n₁ (a .waiting .sound) (λ i q. a .waiting .settled i q (rows-quiet m (c .none h) i q));
     }
 
-    pub saturated-full : full ≡ true → Saturated R kind l n m₂ true n₂
-    saturated-full f = record { changed = round-more .0; risen = rw (← f) (round-more .1); closed = λ z. absurd (true≢false z) }
+    module _ {at : ℕ} {rose′ : List ℕ} (c : Chosen (m .subj) n₁ rose at) (h : at < n₁) (w : Without (rowAt m at .s) rose rose′) where
+      pub step-due : {turn : ℕ} {due′ : List ℕ} → Aimed m n₁ (rowAt m at .s) due′ turn → RoundDue plans turn (rowAt m at .s) kind m n₁ due′ rose′
+      step-due {turn} i = record {
+        sound = a .waiting .sound;
+        settled = λ j q idle quiet. a .waiting .settled j q (aimed-quiet m n₁ (rowAt m at .s) turn i w (tripleAt m j) idle quiet);
+      }
 
-    pub saturated-done : full ≡ false → changed ≡ false → Saturated R kind l n m₂ false n₂
-    saturated-done f z = let w = r .drew .risen .still z in record {
-      changed = round-more .0;
-      risen = rw (← f) (round-more .1);
-      closed = λ y. subst₂ (λ (x : Lanes) (k : ℕ). Closed (algebra kind) R (graphOf (rowsOf x k))) (sym (w .0)) (sym (w .1))
-          (rows-closed m n₁ (a .rows .sound) (r .drew .inside f z));
-    }
+      module _ {m₂ : Lanes} {full changed : Bool} {n₂ : ℕ} {due₂ rose₂ : List ℕ} (r : RoundDrawn R plans kind m n₁ m₂ full changed n₂ due₂ rose′ rose₂) where
+        step-more : (c₃ : Bool) × Risen R kind l n m₂ full c₃ n₂
+        step-more = let e = some-either (a .changed) changed in (e .0, risen-then (a .risen) (r .risen) (e .1))
 
-    -- the sum of annotations rises, and cannot pass its bound
-    pub less-left : changed ≡ true → mostTotal - total (rowsOf m₂ n₂) < mostTotal - total (rowsOf m n₁)
-    less-left t =
-        let s = sound-list (r .drew .risen .sound) in
-        omega (arith, r .drew .risen .grows t, total-bound kind (rowsOf m₂ n₂) (s .legal) (s .ascending))
+        pub step-full : full ≡ true → Saturated R kind l n m₂ true n₂
+        step-full f = record { changed = step-more .0; risen = rw (← f) (step-more .1); closed = λ z. absurd (true≢false z) }
+
+        pub step-on : full ≡ false → {seen′ : List ℕ} → length seen′ ≡ words → Settling R plans kind l n m₂ n₂ due₂ rose₂ seen′
+        step-on f long = record {
+          changed = step-more .0;
+          risen = rw (← f) (step-more .1);
+          waiting = record { sound = r .risen .sound; sets = r .sets; settled = r .settled f };
+          seen-long = long;
+        }
+
+        fewer-wait : members rose′ < members rose
+        fewer-wait = members-fall (legal-small (a .waiting .sound .legal at h) .small-s) (c .some h) w
+
+        pub step-less : settleLeft m₂ n₂ rose₂ < settleLeft m n₁ rose
+        step-less = ⊎-elim rises stays (which changed)
+          where
+            rises : changed ≡ true → settleLeft m₂ n₂ rose₂ < settleLeft m n₁ rose
+            rises t =
+                let s = sound-list (r .risen .sound) in
+                let bound = total-bound kind (rowsOf m₂ n₂) (s .legal) (s .ascending) in
+                let falls : mostTotal - total (rowsOf m₂ n₂) < mostTotal - total (rowsOf m n₁) = omega (arith, r .risen .grows t, bound) in
+                omega (arith, falls, members-most rose₂)
+
+            stays : changed ≡ false → settleLeft m₂ n₂ rose₂ < settleLeft m n₁ rose
+            stays z = rw (r .risen .still z .0, r .risen .still z .1, r .same z) (omega (arith, fewer-wait))

@@ -6,7 +6,7 @@ use mathlib.Core.Logic.{_⊎_, inl, inr, ⊎-elim}
 use Prim.Native.Nat.{ℕ, zero, suc, _+_, _-_, _≤_, _<_}
 use native.Mathlib.Omega.{arith}
 use Rattle.ground.specs.Lists.{All}
-use Rattle.term.specs.Term.{sp}
+use Rattle.term.specs.Term.{sp, dom, range}
 use Rattle.annotation.specs.Kinds.{algebra}
 use Rattle.annotation.proofs.KindLaws.{laws}
 use Rattle.annotation.proofs.Legal.{legal-value}
@@ -25,7 +25,7 @@ use Rattle.plans.specs.declared.Plan.{Plan}
 use Rattle.plans.specs.Plans.{Obeyed}
 use Rattle.walks.proofs.Rising.{which}
 use Rattle.walks.proofs.Neighbours.{row-value, row-held}
-use Rattle.rounds.specs.Due.{Still, Quiet}
+use Rattle.rounds.specs.Due.{Still, Idle, Typed, Quiet}
 use Rattle.rounds.specs.Rounds.{tripleAt, RowObeyed, RowAsked}
 use Rattle.rounds.proofs.Staying.{Apart, Staying}
 
@@ -38,11 +38,14 @@ still-before {a} {b} {t} h s = record {
   by-object = λ p. not-among h (t .o) (s .by-object p);
 }
 
+idle-before : {turn one : ℕ} {a b : List ℕ} {t : Triple} → Among a b → Idle turn one b t → Idle turn one a t
+idle-before h i = record { by-set = λ w. still-before h (i .by-set w); by-one = i .by-one }
+
 quiet-apart : {a : List ℕ} {G : Graph} {t : Triple} → Quiet a G t → Apart (λ x. holds a x ≡ true) G t
 quiet-apart q = record {
-  by-predicate = λ e. true≢false (sym e ∙ q .still .by-predicate);
-  by-object = λ p e. true≢false (sym e ∙ q .still .by-object p);
-  behind = λ z h e. true≢false (sym e ∙ q .behind z h);
+  by-predicate = λ r w h e. true≢false (sym e ∙ q .by-predicate r w h);
+  by-object = λ p r w h e. true≢false (sym e ∙ q .by-object p r w h);
+  behind = λ z h k e. true≢false (sym e ∙ q .behind z h k);
 }
 
 -- ---- rows and their triples
@@ -64,9 +67,14 @@ module _ {kind : ℕ} {l : Lanes} {n : ℕ} {m : Lanes} {n′ : ℕ} (before : S
 
   quiet-before : {a b : List ℕ} {t : Triple} → Among a b → Quiet b (graphOf (rowsOf m n′)) t → Quiet a (graphOf (rowsOf l n)) t
   quiet-before {a} {b} {t} h q = record {
-    still = still-before h (q .still);
-    behind = λ z p. not-among h z (q .behind z (above-positive (triple (t .p) sp z) p));
+    self = not-among h (t .s) (q .self);
+    by-predicate = λ r w p. not-among h (t .p) (q .by-predicate r w (above-positive (triple (t .p) r w) p));
+    by-object = λ d r w p. not-among h (t .o) (q .by-object d r w (above-positive (triple (t .o) r w) p));
+    behind = λ z p k. not-among h z (q .behind z (above-positive (triple (t .p) sp z) p) (typed z k));
   }
+    where
+      typed : (z : ℕ) → Typed (graphOf (rowsOf l n)) z → Typed (graphOf (rowsOf m n′)) z
+      typed z k = (k .0, ⊎-elim (λ p. inl (above-positive (triple z dom (k .0)) p)) (λ p. inr (above-positive (triple z range (k .0)) p)) (k .1))
 
   -- a row keeps its place or moves up
   place-grows : (j i : ℕ) → j < n → i < n′ → key (rowAt l j) ≡ key (rowAt m i) → j ≤ i
@@ -105,15 +113,15 @@ module _ {kind : ℕ} {l : Lanes} {n : ℕ} {m : Lanes} {n′ : ℕ} (before : S
 
 -- ---- what a round has settled
 
--- a row that meets nothing that rose obeys its plans, if it is not to come any more or is not due
-abbrev pub Settled : (Triple → List Plan) → ℕ → List ℕ → List ℕ → (ℕ → Type 0) → Lanes → ℕ → Type 0
-Settled plans kind due rose To l n =
-    (j : ℕ) → j < n → Quiet rose (graphOf (rowsOf l n)) (tripleAt l j) → (To j → Still due (tripleAt l j)) → RowObeyed plans kind l n j
+-- a row that meets nothing that waits obeys its plans, if it is not to come any more or is not due
+abbrev pub Settled : (Triple → List Plan) → ℕ → ℕ → ℕ → List ℕ → List ℕ → (ℕ → Type 0) → Lanes → ℕ → Type 0
+Settled plans turn one kind due rose To l n =
+    (j : ℕ) → j < n → Quiet rose (graphOf (rowsOf l n)) (tripleAt l j) → (To j → Idle turn one due (tripleAt l j)) → RowObeyed plans kind l n j
 
 -- row i is asked; of the rows that are to come before, those are to come after, wherever they stand then
-module _ {R : Rules} {plans : Triple → List Plan} (staying : Staying plans) {kind : ℕ} {l : Lanes} {n i : ℕ} {m : Lanes} {full changed : Bool} {n′ : ℕ}
+module _ {R : Rules} {plans : Triple → List Plan} (staying : Staying plans) {turn one kind : ℕ} {l : Lanes} {n i : ℕ} {m : Lanes} {full changed : Bool} {n′ : ℕ}
     {due due′ rose rose′ : List ℕ} (sound : Sound kind l n) (a : RowAsked R plans kind l n i m full changed n′ due due′ rose rose′)
-    (room : full ≡ false) (To To′ : ℕ → Type 0) (comes : (j k : ℕ) → Moved n n′ j k → (j ≡ i → ⊥) → To j → To′ k) (settled : Settled plans kind due rose To l n) where
+    (room : full ≡ false) (To To′ : ℕ → Type 0) (comes : (j k : ℕ) → Moved n n′ j k → (j ≡ i → ⊥) → To j → To′ k) (settled : Settled plans turn one kind due rose To l n) where
   abbrev G : Graph
   G = graphOf (rowsOf l n)
 
@@ -122,32 +130,32 @@ module _ {R : Rules} {plans : Triple → List Plan} (staying : Staying plans) {k
 
   asked : Quiet rose′ H (tripleAt l i) → RowObeyed plans kind l n i
   asked q = ⊎-elim
-      (λ t. absurd (true≢false (sym (a .again t) ∙ q .still .self)))
+      (λ t. absurd (true≢false (sym (a .again t) ∙ q .self)))
       (a .drew .inside room) (which changed)
 
-  passed : (j : ℕ) → j < n → Quiet rose′ H (tripleAt l j) → ((j ≡ i → ⊥) → To j → Still due′ (tripleAt l j)) → RowObeyed plans kind l n j
+  passed : (j : ℕ) → j < n → Quiet rose′ H (tripleAt l j) → ((j ≡ i → ⊥) → To j → Idle turn one due′ (tripleAt l j)) → RowObeyed plans kind l n j
   passed j h q w = go (tri i j)
     where
       before : (j ≡ i → ⊥) → RowObeyed plans kind l n j
-      before other = settled j h (quiet-before sound (a .drew .risen .sound) (a .drew .risen .up) (a .rose-more) q) (λ t. still-before (a .due-more) (w other t))
+      before other = settled j h (quiet-before sound (a .drew .risen .sound) (a .drew .risen .up) (a .rose-more) q) (λ t. idle-before (a .due-more) (w other t))
 
       go : Tri i j → RowObeyed plans kind l n j
       go (less z) = before (λ e. omega arith)
       go (same z) = subst (λ (k : ℕ). Quiet rose′ H (tripleAt l k) → RowObeyed plans kind l n k) z asked q
       go (more z) = before (λ e. omega arith)
 
-  pub settled-on : Settled plans kind due′ rose′ To′ m n′
+  pub settled-on : Settled plans turn one kind due′ rose′ To′ m n′
   settled-on j h q w =
       let t : Triple = tripleAt m j in
       let sound′ = a .drew .risen .sound in
-      let e : H t ≡ G t = a .drew .kept t (λ z. true≢false (sym z ∙ q .still .self)) in
+      let e : H t ≡ G t = a .drew .kept t (λ z. true≢false (sym z ∙ q .self)) in
       let f : RowHeld n (rowAt l) t = held-row n (rowAt l) t (omega (arith, e, row-positive sound′ j h)) in
       let r = f .is-row in
       let is : tripleAt l (f .at) ≡ t = λ k. triple (r .same-s k) (r .same-p k) (r .same-o k) in
       let ek : key (rowAt l (f .at)) ≡ key (rowAt m j) = rw (r .same-s, r .same-p, r .same-o) refl in
       let place : Moved n n′ (f .at) j = moved sound sound′ (a .drew .risen .up) (f .at) j (f .within) h ek in
       let o : RowObeyed plans kind l n (f .at) = passed (f .at) (f .within)
-      (subst (λ (u : Triple). Quiet rose′ H u) (sym is) q) (λ other t. subst (λ (u : Triple). Still due′ u) (sym is) (w (comes (f .at) j place other t))) in
+      (subst (λ (u : Triple). Quiet rose′ H u) (sym is) q) (λ other t. subst (λ (u : Triple). Idle turn one due′ u) (sym is) (w (comes (f .at) j place other t))) in
       let all : All (λ plan. Obeyed (algebra kind) G plan (rowAt l (f .at) .a)) (plans t)
       = subst (λ (u : Triple). All (λ plan. Obeyed (algebra kind) G plan (rowAt l (f .at) .a)) (plans u)) is o in
       subst (λ (v : ℕ). All (λ plan. Obeyed (algebra kind) H plan v) (plans t)) (sym (f .value-is) ∙ sym e ∙ row-held kind m n′ sound′ j h)

@@ -1,6 +1,6 @@
 -- A row that obeys its plans goes on obeying them while nothing that it can meet rises; and its conclusions have its
 -- subject, its object or its predicate as their subject. Assumes nothing.
-use mathlib.Core.Path.{_≡_, refl}
+use mathlib.Core.Path.{_≡_, refl, subst}
 use mathlib.Core.Bool.{Bool, true, false}
 use mathlib.Core.List.{List, _++_}
 use mathlib.Core.Logic.{_⊎_, inl, inr}
@@ -12,8 +12,8 @@ use Rattle.ground.specs.Lists.{All}
 use Rattle.ground.proofs.Each.{all-append}
 use Rattle.ruleset.specs.RuleSet.{reflexiveSet}
 use Rattle.term.specs.Term.{sp, sc, type, dom, range}
-use Rattle.annotation.specs.Algebra.{Algebra, Laws}
-use Rattle.annotation.proofs.Order.{at-most-trans}
+use Rattle.annotation.specs.Algebra.{Algebra, AtMost, Laws}
+use Rattle.annotation.proofs.Order.{at-most-trans, bottom-at-most}
 use Rattle.table.specs.Rows.{Triple, triple}
 use Rattle.table.proofs.Ordering.{Tri, less, same, more, tri}
 use Rattle.rhodf.specs.Graph.{Graph, Valued, Below}
@@ -21,12 +21,13 @@ use Rattle.plans.specs.declared.Plan.{Plan}
 use Rattle.plans.specs.Plans.{shapeOff, shapeBehind, straightIf, renamingPlan, behindPlan, aloneIf, plansOf, reflexivePlans, plansWith, plansFor, Met, Obeyed}
 use Rattle.plans.proofs.Meeting.{met-bottom}
 use Rattle.plans.proofs.Driven.{all-front, all-behind}
+use Rattle.rounds.specs.Due.{Typed}
 
 -- a row of t meets no row of these subjects
 pub record Apart (S : ℕ → Type 0) (G : Graph) (t : Triple) : Type 0 where
-  pub by-predicate : S (t .p) → ⊥
-  pub by-object : t .p < dom → S (t .o) → ⊥
-  pub behind : (z : ℕ) → 0 < G (triple (t .p) sp z) → S z → ⊥
+  pub by-predicate : (r w : ℕ) → 0 < G (triple (t .p) r w) → S (t .p) → ⊥
+  pub by-object : t .p < dom → (r w : ℕ) → 0 < G (triple (t .o) r w) → S (t .o) → ⊥
+  pub behind : (z : ℕ) → 0 < G (triple (t .p) sp z) → Typed G z → S z → ⊥
 
 -- what a plan gives has such a subject
 abbrev pub OfTriple : Triple → Plan → Type 0
@@ -48,7 +49,8 @@ module _ (K : Algebra) (L : Laws K) (S : ℕ → Type 0) (G H : Graph) (v : Valu
     alone = λ f. absurd (omega (arith, e, f));
   }
 
-  plan-stays : (plan : Plan) → (S (plan .q) → ⊥) → (plan .shape ≡ shapeBehind → (z : ℕ) → 0 < H (triple (plan .q) (plan .r) z) → S z → ⊥)
+  plan-stays : (plan : Plan) → ((z : ℕ) → 0 < H (triple (plan .q) (plan .r) z) → S (plan .q) → ⊥)
+      → (plan .shape ≡ shapeBehind → (z : ℕ) → 0 < H (triple (plan .q) (plan .r) z) → (w : ℕ) → 0 < H (triple z (plan .t) w) → S z → ⊥)
       → Obeyed K G plan a → Obeyed K H plan a
   plan-stays plan apart deep o = record {
     met = λ z. go z (tri 0 (H (triple (plan .q) (plan .r) z)));
@@ -59,8 +61,9 @@ module _ (K : Algebra) (L : Laws K) (S : ℕ → Type 0) (G H : Graph) (v : Valu
     where
       go : (z : ℕ) → Tri 0 (H (triple (plan .q) (plan .r) z)) → Met K H plan z (K .meet a (H (triple (plan .q) (plan .r) z)))
       go z (less h) =
-          let e : H (triple (plan .q) (plan .r) z) ≡ G (triple (plan .q) (plan .r) z) = kept (triple (plan .q) (plan .r) z) apart in
+          let e : H (triple (plan .q) (plan .r) z) ≡ G (triple (plan .q) (plan .r) z) = kept (triple (plan .q) (plan .r) z) (apart z h) in
           let c : ℕ = K .meet a (G (triple (plan .q) (plan .r) z)) in
+          let vc : K .Value c = L .meet-value a (G (triple (plan .q) (plan .r) z)) va (subst (λ (x : ℕ). K .Value x) e (v .value (triple (plan .q) (plan .r) z))) in
           rw e (record {
             straight = λ f named.
                 let t = triple (plan .s) (plan .p) z in
@@ -68,15 +71,21 @@ module _ (K : Algebra) (L : Laws K) (S : ℕ → Type 0) (G H : Graph) (v : Valu
             renaming = λ f named.
                 let t = triple (plan .s) z (plan .o) in
                 at-most-trans K L c (G t) (H t) (o .met z .renaming f named) (up .below t);
-            behind = λ f w named.
-                let t = triple (plan .s) (plan .p) w in
-                rw (kept (triple z (plan .t) w) (deep f z h))
-                (at-most-trans K L (K .meet c (G (triple z (plan .t) w))) (G t) (H t) (o .met z .behind f w named) (up .below t));
+            behind = λ f w named. beyond z h f c vc w (at-most-trans K L (K .meet c (G (triple z (plan .t) w))) (G (triple (plan .s) (plan .p) w)) (H (triple (plan .s) (plan .p) w))
+                (o .met z .behind f w named) (up .below (triple (plan .s) (plan .p) w))) (tri 0 (H (triple z (plan .t) w)));
           })
+        where
+          beyond : (z : ℕ) → 0 < H (triple (plan .q) (plan .r) z) → plan .shape ≡ shapeBehind → (c : ℕ) → K .Value c → (w : ℕ)
+              → AtMost K (K .meet c (G (triple z (plan .t) w))) (H (triple (plan .s) (plan .p) w))
+              → Tri 0 (H (triple z (plan .t) w)) → AtMost K (K .meet c (H (triple z (plan .t) w))) (H (triple (plan .s) (plan .p) w))
+          beyond z h f c vc w low (less k) = rw (kept (triple z (plan .t) w) (deep f z h w k)) low
+          beyond z h f c vc w low (same e) = rw (← e, L .meet-bottom c vc) (bottom-at-most K L _)
+          beyond z h f c vc w low (more k) = absurd (omega arith)
       go z (same e) = rw (← e, L .meet-bottom a va) (met-bottom K L H v plan z)
       go z (more h) = absurd (omega arith)
 
-  straight-stays : (on : Bool) (q r s p : ℕ) → (on ≡ true → S q → ⊥) → Obeyed K G (straightIf on q r s p) a → Obeyed K H (straightIf on q r s p) a
+  straight-stays : (on : Bool) (q r s p : ℕ) → (on ≡ true → (z : ℕ) → 0 < H (triple q r z) → S q → ⊥) → Obeyed K G (straightIf on q r s p) a
+      → Obeyed K H (straightIf on q r s p) a
   straight-stays true q r s p apart o = plan-stays (straightIf true q r s p) (apart refl) (λ f. absurd (omega arith)) o
   straight-stays false q r s p apart o = off-obeyed (straightIf false q r s p) refl
 
@@ -120,21 +129,21 @@ module _ (K : Algebra) (L : Laws K) (S : ℕ → Type 0) (G H : Graph) (v : Valu
   all-stay : (x d y : ℕ) → Apart S H (triple x d y) → All (λ plan. Obeyed K G plan a) (plansOf x d y) → All (λ plan. Obeyed K H plan a) (plansOf x d y)
   unfolding plansOf
   all-stay x d y apart o = (
-    straight-stays (eqb d sp) y sp x sp (λ e. apart .by-object (omega (arith, eqb-true d sp e))) (o .0),
+    straight-stays (eqb d sp) y sp x sp (λ e. apart .by-object (omega (arith, eqb-true d sp e)) sp) (o .0),
     (
-      plan-stays (renamingPlan d sp x y) (apart .by-predicate) (λ f. absurd (omega arith)) (o .1 .0),
+      plan-stays (renamingPlan d sp x y) (apart .by-predicate sp) (λ f. absurd (omega arith)) (o .1 .0),
       (
-        straight-stays (eqb d sc) y sc x sc (λ e. apart .by-object (omega (arith, eqb-true d sc e))) (o .1 .1 .0),
+        straight-stays (eqb d sc) y sc x sc (λ e. apart .by-object (omega (arith, eqb-true d sc e)) sc) (o .1 .1 .0),
         (
-          straight-stays (eqb d type) y sc x type (λ e. apart .by-object (omega (arith, eqb-true d type e))) (o .1 .1 .1 .0),
+          straight-stays (eqb d type) y sc x type (λ e. apart .by-object (omega (arith, eqb-true d type e)) sc) (o .1 .1 .1 .0),
           (
-            plan-stays (straightIf true d dom x type) (apart .by-predicate) (λ f. absurd (omega arith)) (o .1 .1 .1 .1 .0),
+            plan-stays (straightIf true d dom x type) (apart .by-predicate dom) (λ f. absurd (omega arith)) (o .1 .1 .1 .1 .0),
             (
-              plan-stays (straightIf true d range y type) (apart .by-predicate) (λ f. absurd (omega arith)) (o .1 .1 .1 .1 .1 .0),
+              plan-stays (straightIf true d range y type) (apart .by-predicate range) (λ f. absurd (omega arith)) (o .1 .1 .1 .1 .1 .0),
               (
-                plan-stays (behindPlan d sp dom x type) (apart .by-predicate) (λ f z h. apart .behind z h) (o .1 .1 .1 .1 .1 .1 .0),
+                plan-stays (behindPlan d sp dom x type) (apart .by-predicate sp) (λ f z h w k. apart .behind z h (w, inl k)) (o .1 .1 .1 .1 .1 .1 .0),
                 (
-                  plan-stays (behindPlan d sp range y type) (apart .by-predicate) (λ f z h. apart .behind z h) (o .1 .1 .1 .1 .1 .1 .1 .0),
+                  plan-stays (behindPlan d sp range y type) (apart .by-predicate sp) (λ f z h w k. apart .behind z h (w, inr k)) (o .1 .1 .1 .1 .1 .1 .1 .0),
                   tt,
                 ),
               ),

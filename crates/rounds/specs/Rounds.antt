@@ -1,9 +1,8 @@
--- Scaffolding, cited by inner contracts alone: what a row, a round, and rounds until one changes nothing promise.
+-- Scaffolding, cited by inner contracts alone: what a row, a round, and rounds until nothing waits promise.
 use mathlib.Core.Path.{_≡_}
 use mathlib.Core.Bool.{Bool, true, false}
 use mathlib.Core.List.{List}
 use Prim.Native.Nat.{ℕ, _<_}
-use lib.ListN.{length}
 use Rattle.ground.specs.Lists.{All}
 use Rattle.annotation.specs.Kinds.{algebra}
 use Rattle.table.specs.Rows.{Triple, triple, Lanes, rowAt, rowsOf}
@@ -13,9 +12,9 @@ use Rattle.rhodf.specs.Rules.{Rules}
 use Rattle.rhodf.specs.Closure.{Closed}
 use Rattle.plans.specs.declared.Plan.{Plan}
 use Rattle.plans.specs.Plans.{Obeyed}
-use Rattle.termset.specs.Termset.{words, holds, Among}
+use Rattle.termset.specs.Termset.{holds, Among}
 use Rattle.walks.specs.Rising.{Risen, Drew}
-use Rattle.rounds.specs.Due.{Still, Quiet, OfRow}
+use Rattle.rounds.specs.Due.{Idle, Quiet, OfRow, Sets}
 
 -- row i obeys its plans in the table's graph
 abbrev pub tripleAt : Lanes → ℕ → Triple
@@ -38,19 +37,28 @@ pub record RowAsked (R : Rules) (plans : Triple → List Plan) (kind : ℕ) (l :
   pub due-more : Among due due′
   pub rose-more : Among rose rose′
   pub again : changed ≡ true → holds rose′ (rowAt l i .s) ≡ true
+  pub same : changed ≡ false → rose′ ≡ rose
 
--- a row that is not due obeys its plans
-pub record RoundDue (plans : Triple → List Plan) (kind : ℕ) (l : Lanes) (n : ℕ) (due : List ℕ) : Type 0 where
+-- a row that is not due obeys its plans, unless it meets what waits
+pub record RoundDue (plans : Triple → List Plan) (turn one kind : ℕ) (l : Lanes) (n : ℕ) (due rose : List ℕ) : Type 0 where
   pub sound : Sound kind l n
-  pub settled : (j : ℕ) → j < n → Still due (tripleAt l j) → RowObeyed plans kind l n j
+  pub settled : (j : ℕ) → j < n → Idle turn one due (tripleAt l j) → Quiet rose (graphOf (rowsOf l n)) (tripleAt l j) → RowObeyed plans kind l n j
 
--- where nothing changed, every row obeys its plans; and in any case every row that meets nothing that rose in this round
-pub record RoundDrawn (R : Rules) (plans : Triple → List Plan) (kind : ℕ) (l : Lanes) (n : ℕ) (m : Lanes) (full changed : Bool) (n′ : ℕ) (rose : List ℕ) : Type 0 where
-  pub drew : Drew R kind (λ x. Unit {0}) ((i : ℕ) → i < n → RowObeyed plans kind l n i) l n m full changed n′
-  pub long : length rose ≡ words
-  pub settled : full ≡ false → (j : ℕ) → j < n′ → Quiet rose (graphOf (rowsOf m n′)) (tripleAt m j) → RowObeyed plans kind m n′ j
+-- every row obeys its plans, unless it meets what waits: what waited before, and what rose; where nothing rose, the set is as it was
+pub record RoundDrawn (R : Rules) (plans : Triple → List Plan) (kind : ℕ) (l : Lanes) (n : ℕ) (m : Lanes) (full changed : Bool) (n′ : ℕ)
+    (due′ rose rose′ : List ℕ) : Type 0 where
+  pub risen : Risen R kind l n m full changed n′
+  pub sets : Sets due′ rose′
+  pub same : changed ≡ false → rose′ ≡ rose
+  pub settled : full ≡ false → (j : ℕ) → j < n′ → Quiet rose′ (graphOf (rowsOf m n′)) (tripleAt m j) → RowObeyed plans kind m n′ j
 
--- the last round changed nothing, or what follows does not fit
+-- every row obeys its plans, unless it meets what waits
+pub record Waiting (plans : Triple → List Plan) (kind : ℕ) (l : Lanes) (n : ℕ) (due rose : List ℕ) : Type 0 where
+  pub sound : Sound kind l n
+  pub sets : Sets due rose
+  pub settled : (j : ℕ) → j < n → Quiet rose (graphOf (rowsOf l n)) (tripleAt l j) → RowObeyed plans kind l n j
+
+-- nothing waits, or what follows does not fit
 pub record Saturated (R : Rules) (kind : ℕ) (l : Lanes) (n : ℕ) (m : Lanes) (full : Bool) (n′ : ℕ) : Type 0 where
   pub changed : Bool
   pub risen : Risen R kind l n m full changed n′

@@ -1,7 +1,8 @@
 -- Sets of terms as words: bit k of word w says whether the term 64 * w + k is in.
 use mathlib.Core.Path.{_≡_}
-use mathlib.Core.Bool.{Bool, true}
+use mathlib.Core.Bool.{Bool, true, false}
 use mathlib.Core.List.{List}
+use mathlib.Core.Logic.{_⊎_}
 use Prim.Native.Nat.{ℕ, _/_, _%_}
 use lib.ListN.{length, getD}
 use Rattle.ground.specs.Bits.{has}
@@ -28,3 +29,9 @@ pub record Among (a b : List ℕ) : Type 0 where
 pub record With (on : Bool) (term : ℕ) (a b : List ℕ) : Type 0 where
   pub more : Among a b
   pub there : on ≡ true → holds b term ≡ true
+
+-- all that was in the set is, but the term, and nothing else
+pub record Without (term : ℕ) (a b : List ℕ) : Type 0 where
+  pub less : Among b a
+  pub gone : holds b term ≡ false
+  pub others : (other : ℕ) → holds a other ≡ true → (other ≡ term) ⊎ (holds b other ≡ true)

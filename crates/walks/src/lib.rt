@@ -114,7 +114,7 @@ fn draw_met(
 }
 
 // Whether row i is there and begins with q and r.
-fn begins(subj: &[u16], pred: &[u16], count: usize, i: usize, q: u16, r: u16) -> bool
+pub fn begins(subj: &[u16], pred: &[u16], count: usize, i: usize, q: u16, r: u16) -> bool
     requires { ⌜ WithinTwo (now subj) (now pred) count ⌝ }
     ensures { λ b. ⌜ Begins (now (subj .entry)) (now (pred .entry)) count i q r b ⌝ }
 {

@@ -18,6 +18,7 @@ pub mod plain_triples;
 pub mod process;
 pub mod questions;
 pub mod records;
+pub mod rounds;
 pub mod running;
 pub mod runs;
 pub mod stored;

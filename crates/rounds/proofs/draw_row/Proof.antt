@@ -18,11 +18,11 @@ use Rattle.rounds.proofs.draw_row.Statement.{statement}
 use Rattle.rounds.proofs.draw_row.Tie as tie
 
 abbrev Inv-loop : tie.InvT-loop
-Inv-loop kind rules subj₀ pred₀ obj₀ ann₀ count i hint x d y a n₀ changed₀ other₀ third₀ near₀ plans rule₀ subj pred obj ann n changed other third near rule =
-    Drew (rulesOf rules) kind (OfRow (tripleAt (lanes subj₀ pred₀ obj₀ ann₀) i) other third) (Passed (PlanPassed (plansFor rules) kind (lanes subj₀ pred₀ obj₀ ann₀) i) 0 rule (lanes subj₀ pred₀ obj₀ ann₀) count) (lanes subj₀ pred₀ obj₀ ann₀) count (lanes subj pred obj ann) false changed n
+Inv-loop kind rules subj₀ pred₀ obj₀ ann₀ count i hint x d y a n₀ changed₀ rose₀ near₀ plans rule₀ subj pred obj ann n changed rose near rule =
+    Drew (rulesOf rules) kind (OfRow (tripleAt (lanes subj₀ pred₀ obj₀ ann₀) i) (rose .other) (rose .third)) (Passed (PlanPassed (plansFor rules) kind (lanes subj₀ pred₀ obj₀ ann₀) i) 0 rule (lanes subj₀ pred₀ obj₀ ann₀) count) (lanes subj₀ pred₀ obj₀ ann₀) count (lanes subj pred obj ann) false changed n
 
 abbrev μ-loop : tie.MeasureT-loop
-μ-loop kind rules subj₀ pred₀ obj₀ ann₀ count i hint x d y a n₀ changed₀ other₀ third₀ near₀ plans rule₀ subj pred obj ann n changed other third near rule =
+μ-loop kind rules subj₀ pred₀ obj₀ ann₀ count i hint x d y a n₀ changed₀ rose₀ near₀ plans rule₀ subj pred obj ann n changed rose near rule =
     plans - rule
 
 loop-holds : tie.Need-loop-holds Inv-loop μ-loop
@@ -44,63 +44,61 @@ pursue-requires c κs =
 
 same-length : tie.Need-same-length Inv-loop μ-loop
 same-length c =
-    let the-pursue = c .before .before .before .before .before .before .before .before .before .before .before .before .pursue in
-    let the-loop = c .before .before .before .before .before .before .before .before .before .before .before .before .before .before .before .before .before .before .before .loop in
+    let the-pursue = c .before .before .before .before .before .before .before .before .before .before .before .pursue in
+    let the-loop = c .before .before .before .before .before .before .before .before .before .before .before .before .before .before .before .before .before .before .loop in
     the-pursue .ensures .risen .as-long .same-subj ∙ the-loop .inv .risen .as-long .same-subj
 
 same-length-2 : tie.Need-same-length-2 Inv-loop μ-loop
 same-length-2 c =
-    let the-pursue = c .before .before .before .before .before .before .before .before .before .before .before .before .pursue in
-    let the-loop = c .before .before .before .before .before .before .before .before .before .before .before .before .before .before .before .before .before .before .before .loop in
+    let the-pursue = c .before .before .before .before .before .before .before .before .before .before .before .pursue in
+    let the-loop = c .before .before .before .before .before .before .before .before .before .before .before .before .before .before .before .before .before .before .loop in
     the-pursue .ensures .risen .as-long .same-pred ∙ the-loop .inv .risen .as-long .same-pred
 
 same-length-3 : tie.Need-same-length-3 Inv-loop μ-loop
 same-length-3 c =
-    let the-pursue = c .before .before .before .before .before .before .before .before .before .before .before .before .pursue in
-    let the-loop = c .before .before .before .before .before .before .before .before .before .before .before .before .before .before .before .before .before .before .before .loop in
+    let the-pursue = c .before .before .before .before .before .before .before .before .before .before .before .pursue in
+    let the-loop = c .before .before .before .before .before .before .before .before .before .before .before .before .before .before .before .before .before .before .loop in
     the-pursue .ensures .risen .as-long .same-obj ∙ the-loop .inv .risen .as-long .same-obj
 
 same-length-4 : tie.Need-same-length-4 Inv-loop μ-loop
 same-length-4 c =
-    let the-pursue = c .before .before .before .before .before .before .before .before .before .before .before .before .pursue in
-    let the-loop = c .before .before .before .before .before .before .before .before .before .before .before .before .before .before .before .before .before .before .before .loop in
+    let the-pursue = c .before .before .before .before .before .before .before .before .before .before .before .pursue in
+    let the-loop = c .before .before .before .before .before .before .before .before .before .before .before .before .before .before .before .before .before .before .loop in
     the-pursue .ensures .risen .as-long .same-ann ∙ the-loop .inv .risen .as-long .same-ann
 
 returns : tie.Need-returns Inv-loop μ-loop
 returns c =
-    let the-pre = c .before .before .before .before .before .before .before .before .before .before .before .before .before .before .before .before .before .before .before .before .before .before .before .before .before .before .before .before .before .pre in
-    let the-args = c .before .before .before .before .before .before .before .before .before .before .before .before .before .before .before .before .before .before .before .before .before .before .before .before .before .before .before .before .before .args in
-    let the-loop = c .before .before .before .before .before .before .before .before .before .before .before .before .before .before .before .before .before .before .before .loop in
-    let the-loop-test = c .before .before .before .before .before .before .before .before .before .before .before .before .before .before .before .before .before .before .loop-test in
-    let the-plan-of = c .before .before .before .before .before .before .before .before .before .before .before .before .before .before .before .before .before .plan-of in
-    let the-pursue = c .before .before .before .before .before .before .before .before .before .before .before .before .pursue in
-    let the-plan-count = c .before .before .before .before .before .before .before .before .before .before .before .before .before .before .before .before .before .before .before .before .plan-count in
-    let the-rose-at = c .before .before .rose-at in
-    let the-rose-at2 = c .before .rose-at2 in
-    let the-either = c .before .before .before .either in
+    let the-pre = c .before .before .before .before .before .before .before .before .before .before .before .before .before .before .before .before .before .before .before .before .before .before .before .before .before .before .before .before .pre in
+    let the-args = c .before .before .before .before .before .before .before .before .before .before .before .before .before .before .before .before .before .before .before .before .before .before .before .before .before .before .before .before .args in
+    let the-loop = c .before .before .before .before .before .before .before .before .before .before .before .before .before .before .before .before .before .before .loop in
+    let the-loop-test = c .before .before .before .before .before .before .before .before .before .before .before .before .before .before .before .before .before .loop-test in
+    let the-plan-of = c .before .before .before .before .before .before .before .before .before .before .before .before .before .before .before .before .plan-of in
+    let the-pursue = c .before .before .before .before .before .before .before .before .before .before .before .pursue in
+    let the-plan-count = c .before .before .before .before .before .before .before .before .before .before .before .before .before .before .before .before .before .before .before .plan-count in
+    let the-rose-beside = c .before .rose-beside in
+    let the-either = c .before .before .either in
     let the-if1 = c .if1 in
     drew-full (row-turn (set-driven (the-args .rules)) the-pre (set-staying (the-args .rules)) (the-loop .inv)
     (within-plans (the-args .rules) _ (the-plan-count .ensures) (the-loop-test .taken))
     (plan-of-set (the-args .rules) _ (the-plan-count .ensures) (the-loop-test .taken) (the-plan-of .ensures))
-    (the-pursue .ensures) (the-rose-at .ensures) (the-rose-at2 .ensures) (the-either .ensures)) (the-if1 .taken)
+    (the-pursue .ensures) (the-rose-beside .ensures .0) (the-rose-beside .ensures .1) (the-either .ensures)) (the-if1 .taken)
 
 loop-again : tie.Need-loop-again Inv-loop μ-loop
 loop-again c =
-    let the-pre = c .before .before .before .before .before .before .before .before .before .before .before .before .before .before .before .before .before .before .before .before .before .before .before .before .before .before .before .before .before .pre in
-    let the-args = c .before .before .before .before .before .before .before .before .before .before .before .before .before .before .before .before .before .before .before .before .before .before .before .before .before .before .before .before .before .args in
-    let the-loop = c .before .before .before .before .before .before .before .before .before .before .before .before .before .before .before .before .before .before .before .loop in
-    let the-loop-test = c .before .before .before .before .before .before .before .before .before .before .before .before .before .before .before .before .before .before .loop-test in
-    let the-plan-of = c .before .before .before .before .before .before .before .before .before .before .before .before .before .before .before .before .before .plan-of in
-    let the-pursue = c .before .before .before .before .before .before .before .before .before .before .before .before .pursue in
-    let the-plan-count = c .before .before .before .before .before .before .before .before .before .before .before .before .before .before .before .before .before .before .before .before .plan-count in
-    let the-rose-at = c .before .before .rose-at in
-    let the-rose-at2 = c .before .rose-at2 in
-    let the-either = c .before .before .before .either in
+    let the-pre = c .before .before .before .before .before .before .before .before .before .before .before .before .before .before .before .before .before .before .before .before .before .before .before .before .before .before .before .before .pre in
+    let the-args = c .before .before .before .before .before .before .before .before .before .before .before .before .before .before .before .before .before .before .before .before .before .before .before .before .before .before .before .before .args in
+    let the-loop = c .before .before .before .before .before .before .before .before .before .before .before .before .before .before .before .before .before .before .loop in
+    let the-loop-test = c .before .before .before .before .before .before .before .before .before .before .before .before .before .before .before .before .before .loop-test in
+    let the-plan-of = c .before .before .before .before .before .before .before .before .before .before .before .before .before .before .before .before .plan-of in
+    let the-pursue = c .before .before .before .before .before .before .before .before .before .before .before .pursue in
+    let the-plan-count = c .before .before .before .before .before .before .before .before .before .before .before .before .before .before .before .before .before .before .before .plan-count in
+    let the-rose-beside = c .before .rose-beside in
+    let the-either = c .before .before .either in
     let the-if1 = c .if1 in
     goes-on (row-turn (set-driven (the-args .rules)) the-pre (set-staying (the-args .rules)) (the-loop .inv)
     (within-plans (the-args .rules) _ (the-plan-count .ensures) (the-loop-test .taken))
     (plan-of-set (the-args .rules) _ (the-plan-count .ensures) (the-loop-test .taken) (the-plan-of .ensures))
-    (the-pursue .ensures) (the-rose-at .ensures) (the-rose-at2 .ensures) (the-either .ensures)) (the-if1 .left)
+    (the-pursue .ensures) (the-rose-beside .ensures .0) (the-rose-beside .ensures .1) (the-either .ensures)) (the-if1 .left)
 
 returns-2 : tie.Need-returns-2 Inv-loop μ-loop
 returns-2 c =
@@ -115,4 +113,4 @@ pub draw-row-spec : {M : Type 1} → statement M
 draw-row-spec =
     tie.close
     (tie.spec
-    Inv-loop μ-loop (λ c. search needs) (λ c. search needs) (λ c. search needs) (λ c. search needs) (λ c. search needs) (λ c. search needs) (λ c. search needs) (λ c. search needs) (λ c κs. search needs) loop-holds (λ c κs. search needs) pursue-requires (λ c κs. search needs) (λ c κs. search needs) (λ c κs. search needs) same-length same-length-2 same-length-3 same-length-4 returns (λ c. search needs) (λ c. search needs) loop-again (λ c. search needs) (λ c. search needs) (λ c. search needs) (λ c. search needs) returns-2)
+    Inv-loop μ-loop (λ c. search needs) (λ c. search needs) (λ c. search needs) (λ c. search needs) (λ c. search needs) (λ c. search needs) (λ c. search needs) (λ c. search needs) (λ c κs. search needs) loop-holds (λ c κs. search needs) pursue-requires (λ c κs. search needs) (λ c κs. search needs) same-length same-length-2 same-length-3 same-length-4 returns (λ c. search needs) (λ c. search needs) loop-again (λ c. search needs) (λ c. search needs) (λ c. search needs) (λ c. search needs) returns-2)

@@ -1,6 +1,6 @@
 -- Six terms put in, or none.
 use mathlib.Core.Path.{_∙_}
-use borrow.Author.Tests.{not-true}
+use borrow.Author.Tests.{not-true, not-false}
 use Rattle.rounds.proofs.Marking.{marked, unmarked}
 use borrow.Author.Needs.{needs}
 use Rattle.rounds.proofs.mark.Statement.{statement}
@@ -55,7 +55,8 @@ returns-2 c =
     let the-put-if4 = c .before .before .before .before .put-if4 in
     let the-put-if5 = c .before .before .put-if5 in
     let the-put-if6 = c .put-if6 in
-    marked (the-put-if .ensures) (the-put-if2 .ensures) (the-put-if3 .ensures) (the-put-if4 .ensures) (the-put-if5 .ensures) (the-put-if6 .ensures)
+    let the-if1 = c .before .before .before .before .before .before .before .before .before .before .before .before .if1 in
+    marked (not-false _ (the-if1 .left)) (the-put-if .ensures) (the-put-if2 .ensures) (the-put-if3 .ensures) (the-put-if4 .ensures) (the-put-if5 .ensures) (the-put-if6 .ensures)
 
 pub mark-spec : {M : Type 1} → statement M
 mark-spec =

@@ -15,11 +15,11 @@ use Rattle.rounds.proofs.round.Statement.{statement}
 use Rattle.rounds.proofs.round.Tie as tie
 
 abbrev Inv-loop : tie.InvT-loop
-Inv-loop turn kind rules subj₀ pred₀ obj₀ ann₀ count due₀ rose₀ n₀ changed₀ near₀ i₀ subj pred obj ann due rose n changed near i =
-    SoFar (rulesOf rules) (plansFor rules) kind due₀ (lanes subj₀ pred₀ obj₀ ann₀) count (lanes subj pred obj ann) changed n due rose (ToCome turn i) × Seeking turn n i
+Inv-loop turn one kind rules subj₀ pred₀ obj₀ ann₀ count due₀ rose₀ n₀ changed₀ near₀ i₀ subj pred obj ann due rose n changed near i =
+    SoFar (rulesOf rules) (plansFor rules) turn one kind (lanes subj₀ pred₀ obj₀ ann₀) count (lanes subj pred obj ann) changed n due rose₀ rose (ToCome turn i) × Seeking turn n i
 
 abbrev μ-loop : tie.MeasureT-loop
-μ-loop turn kind rules subj₀ pred₀ obj₀ ann₀ count due₀ rose₀ n₀ changed₀ near₀ i₀ subj pred obj ann due rose n changed near i =
+μ-loop turn one kind rules subj₀ pred₀ obj₀ ann₀ count due₀ rose₀ n₀ changed₀ near₀ i₀ subj pred obj ann due rose n changed near i =
     roundLeft turn (length subj₀) n i
 
 loop-holds : tie.Need-loop-holds Inv-loop μ-loop
@@ -32,27 +32,27 @@ loop-holds c =
 seek-requires : tie.Need-seek-requires Inv-loop μ-loop
 seek-requires c κs =
     let the-loop = c .before .before .before .before .loop in
-    (rows-of-three (the-loop .inv .0 .drew .risen .sound), the-loop .inv .1)
+    (rows-of-three (the-loop .inv .0 .risen .sound), the-loop .inv .1)
 
 same-length : tie.Need-same-length Inv-loop μ-loop
 same-length c =
     let the-loop = c .before .before .before .before .before .before .loop in
-    the-loop .inv .0 .drew .risen .as-long .same-subj
+    the-loop .inv .0 .risen .as-long .same-subj
 
 same-length-2 : tie.Need-same-length-2 Inv-loop μ-loop
 same-length-2 c =
     let the-loop = c .before .before .before .before .before .before .loop in
-    the-loop .inv .0 .drew .risen .as-long .same-pred
+    the-loop .inv .0 .risen .as-long .same-pred
 
 same-length-3 : tie.Need-same-length-3 Inv-loop μ-loop
 same-length-3 c =
     let the-loop = c .before .before .before .before .before .before .loop in
-    the-loop .inv .0 .drew .risen .as-long .same-obj
+    the-loop .inv .0 .risen .as-long .same-obj
 
 same-length-4 : tie.Need-same-length-4 Inv-loop μ-loop
 same-length-4 c =
     let the-loop = c .before .before .before .before .before .before .loop in
-    the-loop .inv .0 .drew .risen .as-long .same-ann
+    the-loop .inv .0 .risen .as-long .same-ann
 
 returns : tie.Need-returns Inv-loop μ-loop
 returns c =
@@ -66,7 +66,7 @@ ask-row-requires : tie.Need-ask-row-requires Inv-loop μ-loop
 ask-row-requires c κs =
     let the-loop = c .before .before .before .before .before .before .before .before .before .before .before .before .loop in
     let the-if1 = c .before .before .before .before .before .before .if1 in
-    (record { sound = the-loop .inv .0 .drew .risen .sound; there = omega (arith, the-if1 .left) }, the-loop .inv .0 .sets)
+    (record { sound = the-loop .inv .0 .risen .sound; there = omega (arith, the-if1 .left) }, the-loop .inv .0 .sets)
 
 sub-onward : tie.Need-sub-onward Inv-loop μ-loop
 sub-onward c =
@@ -83,25 +83,25 @@ same-length-5 : tie.Need-same-length-5 Inv-loop μ-loop
 same-length-5 c =
     let the-ask-row = c .before .before .before .before .before .before .before .before .before .before .before .before .ask-row in
     let the-loop = c .before .before .before .before .before .before .before .before .before .before .before .before .before .before .before .before .before .before .before .before .before .before .before .before .before .loop in
-    the-ask-row .ensures .drew .risen .as-long .same-subj ∙ the-loop .inv .0 .drew .risen .as-long .same-subj
+    the-ask-row .ensures .drew .risen .as-long .same-subj ∙ the-loop .inv .0 .risen .as-long .same-subj
 
 same-length-6 : tie.Need-same-length-6 Inv-loop μ-loop
 same-length-6 c =
     let the-ask-row = c .before .before .before .before .before .before .before .before .before .before .before .before .ask-row in
     let the-loop = c .before .before .before .before .before .before .before .before .before .before .before .before .before .before .before .before .before .before .before .before .before .before .before .before .before .loop in
-    the-ask-row .ensures .drew .risen .as-long .same-pred ∙ the-loop .inv .0 .drew .risen .as-long .same-pred
+    the-ask-row .ensures .drew .risen .as-long .same-pred ∙ the-loop .inv .0 .risen .as-long .same-pred
 
 same-length-7 : tie.Need-same-length-7 Inv-loop μ-loop
 same-length-7 c =
     let the-ask-row = c .before .before .before .before .before .before .before .before .before .before .before .before .ask-row in
     let the-loop = c .before .before .before .before .before .before .before .before .before .before .before .before .before .before .before .before .before .before .before .before .before .before .before .before .before .loop in
-    the-ask-row .ensures .drew .risen .as-long .same-obj ∙ the-loop .inv .0 .drew .risen .as-long .same-obj
+    the-ask-row .ensures .drew .risen .as-long .same-obj ∙ the-loop .inv .0 .risen .as-long .same-obj
 
 same-length-8 : tie.Need-same-length-8 Inv-loop μ-loop
 same-length-8 c =
     let the-ask-row = c .before .before .before .before .before .before .before .before .before .before .before .before .ask-row in
     let the-loop = c .before .before .before .before .before .before .before .before .before .before .before .before .before .before .before .before .before .before .before .before .before .before .before .before .before .loop in
-    the-ask-row .ensures .drew .risen .as-long .same-ann ∙ the-loop .inv .0 .drew .risen .as-long .same-ann
+    the-ask-row .ensures .drew .risen .as-long .same-ann ∙ the-loop .inv .0 .risen .as-long .same-ann
 
 returns-2 : tie.Need-returns-2 Inv-loop μ-loop
 returns-2 c =
@@ -120,7 +120,7 @@ loop-less c =
     let the-ask-row = c .before .before .before .before .before .before .before .before .before .before .before .before .ask-row in
     let the-loop = c .before .before .before .before .before .before .before .before .before .before .before .before .before .before .before .before .before .before .before .before .before .before .before .before .before .loop in
     let the-onward = c .before .before .onward in
-    left-falls _ (the-seek .ensures .reached) (omega (arith, the-if1 .left)) (the-ask-row .ensures .drew .risen .more) (omega (arith, the-ask-row .ensures .drew .risen .sound .within, the-ask-row .ensures .drew .risen .as-long .same-subj, the-loop .inv .0 .drew .risen .as-long .same-subj)) (the-onward .ensures)
+    left-falls _ (the-seek .ensures .reached) (omega (arith, the-if1 .left)) (the-ask-row .ensures .drew .risen .more) (omega (arith, the-ask-row .ensures .drew .risen .sound .within, the-ask-row .ensures .drew .risen .as-long .same-subj, the-loop .inv .0 .risen .as-long .same-subj)) (the-onward .ensures)
 
 loop-again : tie.Need-loop-again Inv-loop μ-loop
 loop-again c =

@@ -8,7 +8,7 @@
 
 use against::running::Running;
 use against::stored_questions::{ann, con, holder, triple, var, BOTH, EITHER};
-use against::{asking, baseline, calls, catalogue, places, plain_triples, records};
+use against::{asking, baseline, calls, catalogue, places, plain_triples, records, rounds};
 use std::hint::black_box;
 use std::path::Path;
 use std::process::{Command, Stdio};
@@ -138,6 +138,24 @@ fn measure_slow(name: &str, order: &str, kind: u8, rules: u8, rows: &[Row]) {
         rows.len(),
         closed.count,
         proved / plain
+    );
+}
+
+/// The work of closing a book made to be slow, counted in plain Rust, and the conclusions that the
+/// plain closure draws.
+fn count_work(name: &str, order: &str, kind: u8, rules: u8, rows: &[Row]) {
+    let (plain_rows, plain) = baseline::close(kind, rules, rows);
+    let (counted, work) = rounds::close(kind, rules, rows);
+    assert_eq!(counted, plain_rows, "{name} {order}, {kind}, {rules}");
+    println!(
+        "{name:16} {order:8} {rules:6} {:5} {:7} {:7} {:7} {:8} {:7} {:9} {plain:9}",
+        rows.len(),
+        counted.len(),
+        work.sweeps,
+        work.steps,
+        work.passed,
+        work.asked,
+        work.drawn
     );
 }
 
@@ -386,6 +404,15 @@ fn measure_made_slow(rules: u8) {
     }
 }
 
+fn count_made_slow(rules: u8) {
+    for order in slow::ORDERS {
+        for at in 0..slow::books(order, 1000).len() {
+            let (name, kind, rows) = largest(order, at, rules, 1000);
+            count_work(name, order, kind, rules, &rows);
+        }
+    }
+}
+
 fn main() {
     println!("table  rules kind  rows  closed  rounds   drawn   proved, us    plain, us    ratio");
     measure_closing(1, [(13, 10, 11), (24, 50, 36), (44, 190, 120)]);
@@ -395,6 +422,11 @@ fn main() {
     );
     measure_made_slow(1);
     measure_made_slow(2);
+    println!(
+        "\nmade to be slow  order     rules  rows  closed  sweeps   steps   passed   asked     drawn   plain's"
+    );
+    count_made_slow(1);
+    count_made_slow(2);
     println!("\nwhat                                   size   proved, us    plain, us    ratio");
     for rows in [100, 300, 1000] {
         measure_asking("join on the subject", rows, &on_vans());
