@@ -2,11 +2,14 @@
 use mathlib.Core.Path.{_≡_}
 use mathlib.Core.Bool.{Bool, true, false}
 use mathlib.Core.List.{List}
+use denote.Ref.{now}
+use denote.Triple.Both.{Both}
 use Prim.Native.Nat.{ℕ, _<_}
 use Rattle.ground.specs.Lists.{All}
 use Rattle.annotation.specs.Kinds.{algebra}
 use Rattle.table.specs.Rows.{Triple, triple, Lanes, rowAt, rowsOf}
 use Rattle.table.specs.Sound.{Sound}
+use Rattle.table.specs.Lent.{Lane}
 use Rattle.rhodf.specs.Graph.{graphOf}
 use Rattle.rhodf.specs.Rules.{Rules}
 use Rattle.rhodf.specs.Closure.{Closed}
@@ -63,3 +66,12 @@ pub record Saturated (R : Rules) (kind : ℕ) (l : Lanes) (n : ℕ) (m : Lanes) 
   pub changed : Bool
   pub risen : Risen R kind l n m full changed n′
   pub closed : full ≡ false → Closed (algebra kind) R (graphOf (rowsOf m n′))
+
+-- a row asked and a round drawn, of sets as they are lent: where the call begins, and where it ends
+abbrev pub RowAskedIn : Rules → (Triple → List Plan) → ℕ → Lanes → ℕ → ℕ → Lanes → Bool → Bool → ℕ → Both Lane Lane → Both Lane Lane → Type 0
+RowAskedIn R plans kind l n i m full changed n′ due rose =
+    RowAsked R plans kind l n i m full changed n′ (now (due .entry)) (now (due .exit)) (now (rose .entry)) (now (rose .exit))
+
+abbrev pub RoundDrawnIn : Rules → (Triple → List Plan) → ℕ → Lanes → ℕ → Lanes → Bool → Bool → ℕ → Both Lane Lane → Both Lane Lane → Type 0
+RoundDrawnIn R plans kind l n m full changed n′ due rose =
+    RoundDrawn R plans kind l n m full changed n′ (now (due .exit)) (now (rose .entry)) (now (rose .exit))

@@ -13,7 +13,7 @@ ghost use Rattle.table.specs.Rows.{triple, lanes};
 ghost use Rattle.rhodf.specs.Rules.{rulesOf};
 ghost use Rattle.plans.specs.Plans.{plansFor};
 ghost use Rattle.rounds.specs.Due.{Sets, RoseAt, MeetsNone, MeetsNotOne, BlockAway, Marked, Leads, RowsOfThree, NextDue, NextOf, LastDue, Seeking, Sought, First, Onward, Spread, NoRow, Untyped, Aimed, Fresh, Waits, Chosen};
-ghost use Rattle.rounds.specs.Rounds.{RowOfTable, RowDrawn, RowAsked, RoundDue, RoundDrawn, Waiting, Saturated};
+ghost use Rattle.rounds.specs.Rounds.{RowOfTable, RowDrawn, RowAskedIn, RoundDue, RoundDrawnIn, Waiting, Saturated};
 ghost use Rattle.table.specs.Sound.{Sound};
 use plans::plan_count;
 use plans::plan_of;
@@ -234,7 +234,7 @@ fn ask_row(
     rose: &mut [u64; 1024],
 ) -> PutDone
     requires { ⌜ RowOfTable kind (lent subj pred obj ann) count i × Sets (now due) (now rose) ⌝ }
-    ensures { λ r. ⌜ RowAsked (rulesOf rules) (plansFor rules) kind (before subj pred obj ann) count i (after subj pred obj ann) (r .full) (r .changed) (r .count) (now (due .entry)) (now (due .exit)) (now (rose .entry)) (now (rose .exit)) ⌝ }
+    ensures { λ r. ⌜ RowAskedIn (rulesOf rules) (plansFor rules) kind (before subj pred obj ann) count i (after subj pred obj ann) (r .full) (r .changed) (r .count) due rose ⌝ }
 {
     let x = subj[i];
     let d = pred[i];
@@ -387,7 +387,7 @@ fn round(
     rose: &mut [u64; 1024],
 ) -> PutDone
     requires { ⌜ RoundDue (plansFor rules) turn one kind (lent subj pred obj ann) count (now due) (now rose) × Sets (now due) (now rose) ⌝ }
-    ensures { λ r. ⌜ RoundDrawn (rulesOf rules) (plansFor rules) kind (before subj pred obj ann) count (after subj pred obj ann) (r .full) (r .changed) (r .count) (now (due .exit)) (now (rose .entry)) (now (rose .exit)) ⌝ }
+    ensures { λ r. ⌜ RoundDrawnIn (rulesOf rules) (plansFor rules) kind (before subj pred obj ann) count (after subj pred obj ann) (r .full) (r .changed) (r .count) due rose ⌝ }
 {
     let mut n = count;
     let mut changed = false;
