@@ -1,5 +1,7 @@
 // Annotations of kinds 1, 3, 4 and 5: which are legal, And, Join, at most.
 // Refused here: a kind that is none (4), an annotation that its kind does not have (10), or that misses a larger combination (28).
+#![tactic(auto)]
+
 ghost use Rattle.std.specs.Prelude.{◌≡◌, not, ◌+◌, ◌-◌, ◌≤◌, min, max, eqb};
 ghost use Rattle.std.specs.Int.Bits.{bit_and, bit_or};
 ghost use Rattle.term.specs.Refusal.{first};

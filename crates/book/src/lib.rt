@@ -1,5 +1,7 @@
 // Fitting books: read into a table, and written from one.
 // Refused here: a cut field (1), the head (2 to 5, 36), other fields (6, 7), their content (8, 9, 10, 28), lanes (11), room (12), length (13).
+#![tactic(auto)]
+
 ghost use Rattle.std.specs.Prelude.{◌≡◌, length};
 ghost use Rattle.table.specs.Lent.{before, after, lent};
 ghost use Rattle.book.specs.Reading.{fields_of, Reading};

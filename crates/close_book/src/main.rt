@@ -1,5 +1,7 @@
 // The closing program: a book on standard input, what follows from it on standard output.
 // `closed KIND BASE ROWS` and the rows, or `refused NUMBER PLACE`.
+#![tactic(auto)]
+
 ghost use Rattle.std.specs.Prelude.{◌≤◌, length};
 ghost use Rattle.table.specs.Lent.{before};
 ghost use Rattle.printing.specs.Laid.{Fronted};

@@ -1,5 +1,7 @@
 // Closing a table under the rules of its rule set: every rule at every row that could give something new, until nothing more rises.
 // Refused here: what the table check refuses, an unknown rule set (36), and a closure that has more rows than the lanes (12).
+#![tactic(auto)]
+
 ghost use Rattle.table.specs.Lent.{before, after};
 ghost use Rattle.closing.specs.Closing.{Closing};
 

@@ -1,5 +1,7 @@
 // The counter's program: a book, then questions to the end of the input, each behind a length of two bytes.
 // For each question `asked NUMBER PLACE COUNT LOOKS` and a line for each answer; `refused NUMBER PLACE` ends it.
+#![tactic(auto)]
+
 ghost use Rattle.std.specs.Prelude.{◌≡◌, true, ◌+◌, ◌≤◌, length};
 ghost use Rattle.io.specs.Counts.{IsPrefixLen};
 ghost use Rattle.ruleset.specs.RuleSet.{is_rule_set};

@@ -1,5 +1,7 @@
 // One field at a position of lent bytes: tag, length, value, or cut; and the numbers in it, high byte first.
 // Books and questions are made of such fields. Refuses nothing itself: it says what stands there.
+#![tactic(auto)]
+
 ghost use Rattle.std.specs.Prelude.{◌≡◌};
 ghost use Rattle.field.specs.Fields.{field_at_lem};
 

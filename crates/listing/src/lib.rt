@@ -1,5 +1,7 @@
 // Lines on standard output: words and decimal numbers behind single blanks, one line feed at the end.
 // What a call of the system writes no contract can say, so these have none; the programs' stored output tests them.
+#![tactic(auto)]
+
 use libc::STDOUT_FILENO;
 
 pub fn word(text: &[u8]) {

@@ -1,5 +1,7 @@
 // The names of a makers' list: texts and their numbers, in three lent lanes. A text is found or entered behind the last, and a number's
 // text is found. A list is full where an entry or its bytes do not fit.
+#![tactic(auto)]
+
 ghost use Rattle.std.specs.Prelude.{◌≡◌, ◌+◌, ◌≤◌, length};
 ghost use Rattle.names.specs.Names.{lanes_of, start_of, is_unfit_list};
 ghost use Rattle.names.specs.Lent.{names_lent, names_before};

@@ -1,5 +1,7 @@
 // One line of a makers' list entered: its three terms numbered, its triple put into the table.
 // Refused here: a line that is not N-Triples (26), a list with no room (27), a table with no room (12).
+#![tactic(auto)]
+
 ghost use Rattle.std.specs.Prelude.{◌≡◌, false, ◌≤◌, length};
 ghost use Rattle.table.specs.Lent.{lent};
 ghost use Rattle.names.specs.Lent.{names_lent, names_before, names_after};

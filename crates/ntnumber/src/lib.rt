@@ -1,5 +1,7 @@
 // The number of a term of a file of N-Triples: one of the five, one that the names list has, or a new one behind the last.
 // Nothing is refused here: a term that does not fit the list is said to be so.
+#![tactic(auto)]
+
 ghost use Rattle.std.specs.Prelude.{◌≡◌, ◌+◌, ◌≤◌, ◌<◌, length, take, drop};
 ghost use Rattle.names.specs.Names.{entries_of};
 ghost use Rattle.names.specs.Lent.{names_lent, names_before, names_after};

@@ -1,5 +1,7 @@
 // A makers' list read into a new table and a new names list: line by line, each term entered, each triple put.
 // Refused here: a line that is not N-Triples (26), a list with no room (27); beside these the kind (4), the annotation (10, 28), lanes (11), room (12), length (13).
+#![tactic(auto)]
+
 ghost use Rattle.std.specs.Prelude.{◌≡◌};
 ghost use Rattle.table.specs.Lent.{before, after, lent};
 ghost use Rattle.names.specs.Lent.{names_lent, names_before, names_after};

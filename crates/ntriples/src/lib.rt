@@ -1,5 +1,7 @@
 // A table and a names list written as canonical N-Triples: both judged, then each row a line.
 // Refused here: a row that cannot be written (39); beside it what the table's check refuses, lanes (11), room (12), a count over its lanes (14).
+#![tactic(auto)]
+
 ghost use Rattle.std.specs.Prelude.{◌≡◌, not, ◌≤◌, length};
 ghost use Rattle.field.specs.Numbers.{written};
 ghost use Rattle.table.specs.Rows.{row};

@@ -1,5 +1,7 @@
 // What writing a table as N-Triples writes of a term and of a row, and how long it is. Whether every term has a text, and whether
 // the output has room, is asked before.
+#![tactic(auto)]
+
 ghost use Rattle.std.specs.Prelude.{◌≡◌, ◌≤◌, length};
 ghost use Rattle.names.specs.Names.{entries_of, text_of};
 ghost use Rattle.names.specs.Lent.{names_lent, names_before};

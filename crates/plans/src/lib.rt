@@ -1,5 +1,7 @@
 // The rules of rho-df driven from one row (X D Y): which rows each rule looks for beside it, and what each of those gives.
 // Nothing is refused or drawn here; `rounds` carries the plans out.
+#![tactic(auto)]
+
 ghost use Rattle.std.specs.Prelude.{◌≡◌, cond};
 ghost use Rattle.table.specs.Rows.{triple};
 ghost use Rattle.plans.specs.Plans.{shape_off, shape_straight, shape_alone, off_plan, straight_if, renaming_plan, behind_plan, alone_if, plan_at, plan_count_lem, reflexive_plans, all_plans};

@@ -4,6 +4,8 @@
 // Sweeps over all rows, up, down and up, take most of what follows. Then one subject after another is taken out of `rose`, and the
 // rows that can meet its rows are asked: what follows step by step, in whatever order, costs one pass over the rows a step.
 // Nothing is refused here; where a row finds no room, the caller is told (`full`).
+#![tactic(auto)]
+
 ghost use Rattle.std.specs.Prelude.{◌≡◌, ◌+◌, ◌≤◌, ◌<◌, length};
 ghost use Rattle.termset.specs.Termset.{words};
 ghost use Rattle.table.specs.Lent.{before, after, lent};

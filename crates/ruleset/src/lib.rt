@@ -1,5 +1,7 @@
 // Rule sets, by number: 1, the rules of rho-df, and 2, these with the reflexive ones (C-23). Which rules they have stands in `rhodf`.
 // Refused here: a number that is no rule set (36).
+#![tactic(auto)]
+
 ghost use Rattle.std.specs.Prelude.{◌≡◌};
 ghost use Rattle.term.specs.Refusal.{first};
 ghost use Rattle.ruleset.specs.RuleSet.{rule_set_checks};

@@ -1,4 +1,6 @@
 // A step list: a lent record laid as numbers and fetched back, which steps and which lists are legal (23), and the taking of a record.
+#![tactic(auto)]
+
 mod lane;
 mod legal;
 mod take;

@@ -1,5 +1,7 @@
 // A table: rows in four lent lanes and a count, sorted by subject, predicate, object.
 // Refused here: a kind (4), lanes that do not fit (11), no room (12), a count past the lanes (14), and rows (8, 9, 10, 28, 15).
+#![tactic(auto)]
+
 ghost use Rattle.std.specs.Prelude.{◌≡◌, cond};
 ghost use Rattle.table.specs.Lent.{before, after};
 ghost use Rattle.table.specs.Rows.{row};

@@ -1,4 +1,6 @@
 // A small demonstration: triples added to a table of three rows, and tables checked, each answer printed with its rows.
+#![tactic(auto)]
+
 use trackvesper::{add, check};
 
 // Lamp 10 is of class 11 in 2000 to 2002, and again in 2005 to 2007 (base year 2000): two runs, never one.

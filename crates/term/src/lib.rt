@@ -1,5 +1,7 @@
 // A term is a 16-bit number: its top two bits are its sort, the others its number.
 // Refused here: 65,535, which marks "unbound" (8), and, as a predicate, whatever is no name (9).
+#![tactic(auto)]
+
 ghost use Rattle.std.specs.Prelude.{◌≡◌};
 ghost use Rattle.term.specs.Term.{sort_of, number_of, term_checks, predicate_checks};
 ghost use Rattle.term.specs.Refusal.{first};

@@ -1,5 +1,7 @@
 // Sets of terms: one bit for each of the 65,536 that there can be, in words (8 KB).
 // Nothing is refused here.
+#![tactic(auto)]
+
 ghost use Rattle.std.specs.Prelude.{◌≡◌, length};
 ghost use Rattle.termset.specs.Termset.{words, holds, With, Without};
 

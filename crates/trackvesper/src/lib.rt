@@ -1,5 +1,7 @@
 // Trackvesper: fitting books, what follows from them, questions about them, makers' lists, and the calls for C hosts.
 // The calls below take anything and refuse by number and place; the README has the table of numbers.
+#![tactic(auto)]
+
 ghost use Rattle.std.specs.Prelude.{◌≡◌, ◌<◌};
 ghost use Rattle.table.specs.Lent.{lent};
 ghost use Rattle.trackvesper.specs.ClosedBook.{fresh_lanes, a_number, packed, ClosedBook};

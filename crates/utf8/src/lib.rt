@@ -1,5 +1,7 @@
 // UTF-8 (RFC 3629): the character at a position of lent bytes, the bytes of a character, and whether bytes are a text.
 // What is no character (overlong, a surrogate, above 10FFFF, cut, a lone tail) is said to be Bad; nothing is refused here.
+#![tactic(auto)]
+
 ghost use Rattle.std.specs.Prelude.{◌≡◌, ◌≤◌, ◌<◌, length};
 ghost use Rattle.std.proofs.Math.Seq.{slice};
 ghost use Rattle.utf8.specs.Octets.{character_at};

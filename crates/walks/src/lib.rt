@@ -2,6 +2,8 @@
 // Nothing is refused here; where a row finds no room, the caller is told (`full`).
 // The table may grow under a walk and rows move; only a walk that changed nothing shows that its plan is obeyed.
 // Each conclusion is looked for behind the one before (`hint`, `near`): they mostly come in order.
+#![tactic(auto)]
+
 ghost use Rattle.table.specs.Rows.{row};
 ghost use Rattle.table.specs.Lent.{before, after, lent};
 ghost use Rattle.rhodf.specs.Rules.{rules_of};
