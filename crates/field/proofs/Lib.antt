@@ -4,4 +4,3 @@ pub mod Reading
 pub mod Back
 -- What walks by hand want: of a loop, and of a lane that is lent on.
 pub mod Looping
-pub mod LentOn

@@ -1,0 +1,38 @@
+-- A byte below 0x80, a character, or none.
+use mathlib.Core.Path.{sym}
+use native.Mathlib.Omega.{arith}
+use Rattle.utf8.proofs.Standing.{at_one}
+use Rattle.utf8.proofs.Seeing.{seen-whole, seen-bad, whole-fits}
+use Rattle.utf8.proofs.see.Goals as goal
+
+pub bounds-b-at : goal.bounds-b-at
+bounds-b-at c =
+    let the-pre = c.requires in
+    omega (arith, the-pre.0, the-pre.1)
+
+pub returns-then-x-lt128 : goal.returns-then-x-lt128
+returns-then-x-lt128 c =
+    let the-args = c.args in
+    let the-pre = c.requires in
+    let the-wide = c.wide-x in
+    let the-if1 = c.if-x-lt128 in
+    seen-whole the-args.b.now the-args.at the-args.end the-pre.0 the-pre.1 the-wide.result 1
+    (sym (at_one the-args.b.now the-args.at the-args.end the-pre.1 the-pre.0 the-wide.result the-wide.ensures the-if1.true))
+
+pub overflow_add-result-in-Whole : goal.overflow_add-result-in-Whole
+overflow_add-result-in-Whole c =
+    let the-args = c.args in
+    let the-pre = c.requires in
+    omega (arith, whole-fits the-args.b.now the-args.at the-args.end the-pre.0 the-pre.1 _ _ (sym c.in-Whole.ensures))
+
+pub returns-in-Whole : goal.returns-in-Whole
+returns-in-Whole c =
+    let the-args = c.args in
+    let the-pre = c.requires in
+    seen-whole the-args.b.now the-args.at the-args.end the-pre.0 the-pre.1 _ _ (sym c.in-Whole.ensures)
+
+pub returns-in-Bad : goal.returns-in-Bad
+returns-in-Bad c =
+    let the-args = c.args in
+    let the-pre = c.requires in
+    seen-bad the-args.b.now the-args.at the-args.end the-pre.0 the-pre.1 (sym c.in-Bad.ensures)
