@@ -7,6 +7,7 @@ ghost use Rattle.table.specs.Lent.{before, after, lent};
 ghost use Rattle.book.specs.Reading.{fields_of, Reading};
 ghost use Rattle.book.specs.Writing.{Writing};
 ghost use Rattle.book.specs.Inner.{Fresh, refused_done, ReadInto};
+ghost use Rattle.table.specs.Rows.{lanes};
 
 mod content;
 mod fields;
@@ -121,7 +122,7 @@ pub fn write(
     count: usize,
     out: &mut [u8],
 ) -> WriteDone
-    ensures { Writing kind base rules (before subj pred obj ann) count out.old out.new result.number result.place result.length }
+    ensures { Writing kind base rules (lanes subj.now pred.now obj.now ann.now) count out.old out.new result.number result.place result.length }
 {
     let verdict = write_verdict(kind, base, rules, subj, pred, obj, ann, count, out.len());
     if verdict.number > 0 {

@@ -2,8 +2,7 @@
 ghost use Rattle.std.specs.Prelude.{◌≡◌, ◌+◌, ◌*◌, ◌≤◌, length};
 ghost use Rattle.term.specs.Refusal.{first};
 ghost use Rattle.field.specs.Numbers.{written};
-ghost use Rattle.table.specs.Rows.{row, rows_of};
-ghost use Rattle.table.specs.Lent.{before, lent};
+ghost use Rattle.table.specs.Rows.{lanes, row, rows_of};
 ghost use Rattle.book.specs.Format.{edition_for, head_size_lem, triple_size, rules_bytes, head_bytes, field_bytes, fields_bytes};
 ghost use Rattle.book.specs.Inner.{Writable};
 ghost use Rattle.book.specs.Writing.{book_length_lem, write_checks};
@@ -89,8 +88,8 @@ pub fn write_fields(
     ann: &[u64],
     count: usize,
 )
-    requires { Writable (lent subj pred obj ann) count start out.old }
-    ensures { out.new ≡ written out.old start (fields_bytes (rows_of (before subj pred obj ann) count)) }
+    requires { Writable (lanes subj.now pred.now obj.now ann.now) count start out.old }
+    ensures { out.new ≡ written out.old start (fields_bytes (rows_of (lanes subj.now pred.now obj.now ann.now) count)) }
 {
     let mut i = 0;
     let mut at = start;
@@ -113,7 +112,7 @@ pub fn write_verdict(
     count: usize,
     room: usize,
 ) -> Verdict
-    ensures { result ≡ first (write_checks kind base rules (before subj pred obj ann) count room) }
+    ensures { result ≡ first (write_checks kind base rules (lanes subj.now pred.now obj.now ann.now) count room) }
 {
     let wrong_kind = annotation::kind_refusal(kind);
     if wrong_kind > 0 {

@@ -1,8 +1,8 @@
 // The refusals of a table and a rule set.
 ghost use Rattle.std.specs.Prelude.{◌≡◌};
 ghost use Rattle.term.specs.Refusal.{first};
-ghost use Rattle.table.specs.Lent.{before};
 ghost use Rattle.closing.specs.Checks.{close_checks};
+ghost use Rattle.table.specs.Rows.{lanes};
 
 use term::Verdict;
 
@@ -16,7 +16,7 @@ pub fn check_with(
     ann: &[u64],
     count: usize,
 ) -> Verdict
-    ensures { result ≡ first (close_checks kind rules (before subj pred obj ann) count) }
+    ensures { result ≡ first (close_checks kind rules (lanes subj.now pred.now obj.now ann.now) count) }
 {
     let of_kind = annotation::kind_refusal(kind);
     if of_kind > 0 {

@@ -1,7 +1,7 @@
 // What the counter does with the book's bytes and with a question's, and the text that it prints for them, laid at the front of `out`.
 ghost use Rattle.std.specs.Prelude.{◌≡◌, true, ◌≤◌, length};
 ghost use Rattle.ruleset.specs.RuleSet.{is_rule_set};
-ghost use Rattle.table.specs.Rows.{rows_of};
+ghost use Rattle.table.specs.Rows.{lanes, rows_of};
 ghost use Rattle.table.specs.Lent.{lent, before, after};
 ghost use Rattle.trackvesper.specs.ClosedBook.{fresh_lanes};
 ghost use Rattle.printing.specs.Laid.{Fronted};
@@ -156,8 +156,8 @@ fn ask_listed(
     anns: &mut [u64],
     out: &mut [u8],
 ) -> usize
-    requires { Ready kind (lent subj pred obj ann) count × (length terms.old ≡ 4096) × (length anns.old ≡ 2048) × (asked_room ≤ length out.old) }
-    ensures { Fronted (Is (asked_lines (comes_to kind (rows_of (before subj pred obj ann) count) looks question.now))) out.old out.new result }
+    requires { Ready kind (lanes subj.now pred.now obj.now ann.now) count × (length terms.old ≡ 4096) × (length anns.old ≡ 2048) × (asked_room ≤ length out.old) }
+    ensures { Fronted (Is (asked_lines (comes_to kind (rows_of (lanes subj.now pred.now obj.now ann.now) count) looks question.now))) out.old out.new result }
 {
     let ran = trackvesper::ask(
         kind, subj, pred, obj, ann, count, question, looks, terms, anns,

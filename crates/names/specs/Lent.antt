@@ -1,11 +1,11 @@
 -- A names list as it is lent: three references to lanes, where a call begins and where it ends.
 use Rattle.std.specs.Prelude.{List, ℕ}
-use Rattle.std.specs.Borrow.{Bor}
+use Rattle.std.specs.Borrow.{MutBor}
 use denote.Triple.Both.{Both}
 use Rattle.names.specs.Names.{NameLanes, lanes_of}
 
 abbrev pub Lane : Type 0
-Lane = Bor (List ℕ)
+Lane = MutBor (List ℕ)
 
 abbrev pub names_lent : Lane → Lane → Lane → NameLanes
 names_lent terms ends text = lanes_of terms.now ends.now text.now

@@ -1,7 +1,6 @@
 // Entries looked for by a hash of their texts, so that a file costs as much as it has bytes, however many names it has.
 ghost use Rattle.std.specs.Prelude.{◌≡◌, ◌+◌, ◌≤◌, ◌<◌, length, take, get_or, set};
 ghost use Rattle.names.specs.Names.{lanes_of, entry_at, entries_of};
-ghost use Rattle.names.specs.Lent.{names_lent, names_before};
 ghost use Rattle.names.specs.Entering.{Listing, is_text_of_lem, lookup, count_of};
 ghost use Rattle.names.specs.Finding.{number_for};
 ghost use Rattle.names.specs.Hashed.{mixed_by, MixedIn, hash_of, Sought, lookup_is};
@@ -84,8 +83,8 @@ fn is_entry(
     word: &[u8],
     size: usize,
 ) -> bool
-    requires { Listing (names_lent terms ends text) names × (i < names) × (size ≤ length word.now) }
-    ensures { result ≡ is_text_of_lem sort (take size word.now) (entry_at (names_before terms ends text) i) }
+    requires { Listing (lanes_of terms.now ends.now text.now) names × (i < names) × (size ≤ length word.now) }
+    ensures { result ≡ is_text_of_lem sort (take size word.now) (entry_at (lanes_of terms.now ends.now text.now) i) }
 {
     if term::sort_of(terms[i]) == sort {
         return same(text, start_of(ends, i), ends[i] as usize, word, size);
@@ -106,8 +105,8 @@ fn find_by_hash(
     size: usize,
     h: usize,
 ) -> Match
-    requires { Sought (names_lent terms ends text) names heads.now next.now word.now size h }
-    ensures { lookup_is result.there result.number ≡ lookup (entries_of (names_before terms ends text) names) sort (take size word.now) }
+    requires { Sought (lanes_of terms.now ends.now text.now) names heads.now next.now word.now size h }
+    ensures { lookup_is result.there result.number ≡ lookup (entries_of (lanes_of terms.now ends.now text.now) names) sort (take size word.now) }
 {
     let mut there = false;
     let mut number: u16 = 0;
@@ -125,8 +124,8 @@ fn find_by_hash(
 
 // How many entries are of a sort.
 fn count_of(terms: &[u16], ends: &[u16], text: &[u8], names: usize, sort: u16) -> u16
-    requires { Listing (names_lent terms ends text) names }
-    ensures { (result ≡ count_of sort (entries_of (names_before terms ends text) names)) × (result ≤ 512) }
+    requires { Listing (lanes_of terms.now ends.now text.now) names }
+    ensures { (result ≡ count_of sort (entries_of (lanes_of terms.now ends.now text.now) names)) × (result ≤ 512) }
 {
     let mut count: u16 = 0;
     let mut i = 0;
@@ -152,8 +151,8 @@ pub fn number_by_hash(
     size: usize,
     h: usize,
 ) -> Found
-    requires { Sought (names_lent terms ends text) names heads.now next.now word.now size h }
-    ensures { result ≡ number_for (entries_of (names_before terms ends text) names) sort (take size word.now) }
+    requires { Sought (lanes_of terms.now ends.now text.now) names heads.now next.now word.now size h }
+    ensures { result ≡ number_for (entries_of (lanes_of terms.now ends.now text.now) names) sort (take size word.now) }
 {
     if sort == term::NAME {
         let five = five::number_of(word, size);

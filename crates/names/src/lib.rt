@@ -4,7 +4,6 @@
 
 ghost use Rattle.std.specs.Prelude.{◌≡◌, ◌+◌, ◌≤◌, length};
 ghost use Rattle.names.specs.Names.{lanes_of, start_of, is_unfit_list};
-ghost use Rattle.names.specs.Lent.{names_lent, names_before};
 ghost use Rattle.names.specs.Entering.{Listing, first_of};
 ghost use Rattle.names.specs.Finding.{Lying};
 
@@ -38,7 +37,7 @@ pub const MOST_TEXT: usize = 32768;
 
 // Whether the lanes are no names list's: of unequal length, or too long.
 pub fn is_unfit(terms: &[u16], ends: &[u16], text: &[u8]) -> bool
-    ensures { result ≡ is_unfit_list (names_before terms ends text) }
+    ensures { result ≡ is_unfit_list (lanes_of terms.now ends.now text.now) }
 {
     if terms.len() != ends.len() {
         return true;
@@ -71,8 +70,8 @@ pub fn add_lying(
     n: u16,
     size: usize,
 ) -> Entered
-    requires { Listing (names_lent terms ends text) names × (start_of ends.old names + size ≤ length text.now) }
-    ensures { Lying (names_before terms ends text) (lanes_of terms.new ends.new text.now) names n size result }
+    requires { Listing (lanes_of terms.old ends.old text.now) names × (start_of ends.old names + size ≤ length text.now) }
+    ensures { Lying (lanes_of terms.old ends.old text.now) (lanes_of terms.new ends.new text.now) names n size result }
 {
     if terms.len() <= names {
         return Entered::Full;

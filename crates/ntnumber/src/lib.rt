@@ -3,7 +3,7 @@
 #![tactic(auto)]
 
 ghost use Rattle.std.specs.Prelude.{◌≡◌, ◌+◌, ◌≤◌, ◌<◌, length, take, drop};
-ghost use Rattle.names.specs.Names.{entries_of};
+ghost use Rattle.names.specs.Names.{lanes_of, entries_of};
 ghost use Rattle.names.specs.Lent.{names_lent, names_before, names_after};
 ghost use Rattle.names.specs.Finding.{number_for};
 ghost use Rattle.names.specs.Hashed.{buckets, hash_of};
@@ -80,8 +80,8 @@ fn listed_in_place(
     text: &[u8],
     names: usize,
 ) -> Numbered
-    requires { NumberInto b.now end t (names_lent terms ends text) names }
-    ensures { ListedThere b.now end t (names_before terms ends text) names result }
+    requires { NumberInto b.now end t (lanes_of terms.now ends.now text.now) names }
+    ensures { ListedThere b.now end t (lanes_of terms.now ends.now text.now) names result }
 {
     let sort = t.sort as u16;
     let mut i = 0;
@@ -115,8 +115,8 @@ fn number_in_place(
     text: &[u8],
     names: usize,
 ) -> Numbered
-    requires { NumberInto b.now end t (names_lent terms ends text) names }
-    ensures { KnownThere b.now end t (names_before terms ends text) names result }
+    requires { NumberInto b.now end t (lanes_of terms.now ends.now text.now) names }
+    ensures { KnownThere b.now end t (lanes_of terms.now ends.now text.now) names result }
 {
     if t.sort == NAME {
         let five = five_in_place(b, end, t);
@@ -152,8 +152,8 @@ fn lying_number(
     size: usize,
     h: usize,
 ) -> Found
-    requires { LyingSought (names_lent terms ends text) names heads.now next.now from size h }
-    ensures { result ≡ number_for (entries_of (names_before terms ends text) names) sort (take size (drop from text.now)) }
+    requires { LyingSought (lanes_of terms.now ends.now text.now) names heads.now next.now from size h }
+    ensures { result ≡ number_for (entries_of (lanes_of terms.now ends.now text.now) names) sort (take size (drop from text.now)) }
 {
     number_by_hash(
         terms,
@@ -181,7 +181,7 @@ fn entered(
     size: usize,
     h: usize,
 ) -> Numbered
-    requires { LyingInto (names_lent terms ends text) names heads.old next.old size h }
+    requires { LyingInto (lanes_of terms.old ends.old text.now) names heads.old next.old size h }
     ensures { LyingEntered terms ends text names n size result × HashFollows heads next names h result }
 {
     let e = add_lying(terms, ends, text, names, n, size);

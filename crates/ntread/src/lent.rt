@@ -1,11 +1,12 @@
 // What is lent: refused, or wiped.
 ghost use Rattle.std.specs.Prelude.{◌≡◌, ◌++◌, ◌-◌, ◌≤◌, length, take, replicate};
 ghost use Rattle.term.specs.Refusal.{first};
-ghost use Rattle.table.specs.Rows.{zeroed};
+ghost use Rattle.table.specs.Rows.{lanes, zeroed};
 ghost use Rattle.table.specs.Lent.{before, after};
 ghost use Rattle.names.specs.Lent.{names_before, names_after};
 ghost use Rattle.ntread.specs.Reading.{lent_checks};
 ghost use Rattle.ntread.specs.Inner.{zeroed_names};
+ghost use Rattle.names.specs.Names.{lanes_of};
 
 use table::{LANES_UNFIT, unfit, wipe, zero_u16};
 
@@ -56,7 +57,7 @@ pub fn lent_refusal(
     ends: &[u16],
     text: &[u8],
 ) -> u8
-    ensures { result ≡ (first (lent_checks kind a file.now (before subj pred obj ann) (names_before terms ends text))).number }
+    ensures { result ≡ (first (lent_checks kind a file.now (lanes subj.now pred.now obj.now ann.now) (lanes_of terms.now ends.now text.now))).number }
 {
     let wrong = annotation::kind_refusal(kind);
     if wrong > 0 {

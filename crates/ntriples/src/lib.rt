@@ -4,10 +4,8 @@
 
 ghost use Rattle.std.specs.Prelude.{◌≡◌, not, ◌≤◌, length};
 ghost use Rattle.field.specs.Numbers.{written};
-ghost use Rattle.table.specs.Rows.{row};
-ghost use Rattle.table.specs.Lent.{before};
-ghost use Rattle.names.specs.Names.{entries_of};
-ghost use Rattle.names.specs.Lent.{names_lent, names_before};
+ghost use Rattle.table.specs.Rows.{lanes, row};
+ghost use Rattle.names.specs.Names.{lanes_of, entries_of};
 ghost use Rattle.ntwrite.specs.Written.{Fit};
 ghost use Rattle.ntriples.specs.Writing.{has_text, is_unwritable, WritingTriples};
 ghost use Rattle.ntriples.specs.Inner.{refused_done, mark_of, Marked, lines_of, Judged, FitLines, Lowest};
@@ -48,7 +46,7 @@ fn mark(good: bool) -> u8
 // Each entry judged: 1 where its text is legal for its number's sort.
 fn judge(marks: &mut [u8], terms: &[u16], ends: &[u16], text: &[u8], names: usize)
     requires { (length marks.old ≡ 512) × (names ≤ 512) × (names ≤ length terms.now) × (length ends.now ≡ length terms.now) }
-    ensures { Marked (names_before terms ends text) names marks.new }
+    ensures { Marked (lanes_of terms.now ends.now text.now) names marks.new }
 {
     let mut i = 0;
     while i < names {
@@ -68,8 +66,8 @@ fn has_text(
     marks: &[u8],
     n: u16,
 ) -> bool
-    requires { Fit (names_lent terms ends text) names slots.now × Marked (names_lent terms ends text) names marks.now }
-    ensures { result ≡ has_text (entries_of (names_before terms ends text) names) n }
+    requires { Fit (lanes_of terms.now ends.now text.now) names slots.now × Marked (lanes_of terms.now ends.now text.now) names marks.now }
+    ensures { result ≡ has_text (entries_of (lanes_of terms.now ends.now text.now) names) n }
 {
     if n < names::five::NONE {
         return true;
@@ -93,8 +91,8 @@ fn writable(
     p: u16,
     o: u16,
 ) -> bool
-    requires { Fit (names_lent terms ends text) names slots.now × Marked (names_lent terms ends text) names marks.now }
-    ensures { result ≡ not (is_unwritable (entries_of (names_before terms ends text) names) (row s p o 0)) }
+    requires { Fit (lanes_of terms.now ends.now text.now) names slots.now × Marked (lanes_of terms.now ends.now text.now) names marks.now }
+    ensures { result ≡ not (is_unwritable (entries_of (lanes_of terms.now ends.now text.now) names) (row s p o 0)) }
 {
     if term::sort_of(s) == term::LITERAL {
         return false;
@@ -121,8 +119,8 @@ fn first_unwritable(
     slots: &[u16],
     marks: &[u8],
 ) -> usize
-    requires { Judged (names_lent terms ends text) names slots.now subj.now pred.now obj.now count × Marked (names_lent terms ends text) names marks.now }
-    ensures { Lowest (entries_of (names_before terms ends text) names) subj.now pred.now obj.now count result }
+    requires { Judged (lanes_of terms.now ends.now text.now) names slots.now subj.now pred.now obj.now count × Marked (lanes_of terms.now ends.now text.now) names marks.now }
+    ensures { Lowest (entries_of (lanes_of terms.now ends.now text.now) names) subj.now pred.now obj.now count result }
 {
     let mut i = 0;
     while i < count {
@@ -148,8 +146,8 @@ fn file_size(
     names: usize,
     slots: &[u16],
 ) -> usize
-    requires { Judged (names_lent terms ends text) names slots.now subj.now pred.now obj.now count }
-    ensures { result ≡ length (lines_of (names_before terms ends text) names subj.now pred.now obj.now count) }
+    requires { Judged (lanes_of terms.now ends.now text.now) names slots.now subj.now pred.now obj.now count }
+    ensures { result ≡ length (lines_of (lanes_of terms.now ends.now text.now) names subj.now pred.now obj.now count) }
 {
     let mut size = 0;
     let mut i = 0;
@@ -173,8 +171,8 @@ fn put_lines(
     names: usize,
     slots: &[u16],
 )
-    requires { FitLines (names_lent terms ends text) names slots.now subj.now pred.now obj.now count out.old }
-    ensures { out.new ≡ written out.old 0 (lines_of (names_before terms ends text) names subj.now pred.now obj.now count) }
+    requires { FitLines (lanes_of terms.now ends.now text.now) names slots.now subj.now pred.now obj.now count out.old }
+    ensures { out.new ≡ written out.old 0 (lines_of (lanes_of terms.now ends.now text.now) names subj.now pred.now obj.now count) }
 {
     let mut at = 0;
     let mut i = 0;
@@ -200,7 +198,7 @@ pub fn write_triples(
     names: usize,
     out: &mut [u8],
 ) -> TriplesWritten
-    ensures { WritingTriples kind (before subj pred obj ann) count (names_before terms ends text) names out.old out.new result.number result.place result.size }
+    ensures { WritingTriples kind (lanes subj.now pred.now obj.now ann.now) count (lanes_of terms.now ends.now text.now) names out.old out.new result.number result.place result.size }
 {
     let v = table::check(kind, subj, pred, obj, ann, count);
     if v.number > 0 {

@@ -1,8 +1,8 @@
 // Where the entries of a number begin at the earliest, so that finding its text does not look at all of a list.
 ghost use Rattle.std.specs.Prelude.{◌≡◌, ◌≤◌, ◌<◌, length, get_or};
-ghost use Rattle.names.specs.Lent.{names_lent, names_before};
 ghost use Rattle.names.specs.Finding.{SpanOf, FirstWith};
 ghost use Rattle.ntwrite.specs.Written.{slot_of, Indexed, Fit};
+ghost use Rattle.names.specs.Names.{lanes_of};
 
 use names::Span;
 use names::find::{entry_of, span_at};
@@ -54,8 +54,8 @@ pub fn text_by(
     slots: &[u16],
     n: u16,
 ) -> Span
-    requires { Fit (names_lent terms ends text) names slots.now }
-    ensures { SpanOf (names_before terms ends text) names n result.from result.to }
+    requires { Fit (lanes_of terms.now ends.now text.now) names slots.now }
+    ensures { SpanOf (lanes_of terms.now ends.now text.now) names n result.from result.to }
 {
     let i = entry_by(terms, names, slots, n);
     if i < names {

@@ -3,8 +3,7 @@
 #![tactic(auto)]
 
 ghost use Rattle.std.specs.Prelude.{◌≡◌, ◌≤◌, length};
-ghost use Rattle.names.specs.Names.{entries_of, text_of};
-ghost use Rattle.names.specs.Lent.{names_lent, names_before};
+ghost use Rattle.names.specs.Names.{lanes_of, entries_of, text_of};
 ghost use Rattle.ntwrite.specs.Written.{Fit, FitInto, LaidFrom, term_bytes, part_bytes, line_bytes};
 
 pub mod index;
@@ -26,8 +25,8 @@ const DOT: u8 = 46;
 const LF: u8 = 10;
 
 fn text_size(terms: &[u16], ends: &[u16], text: &[u8], names: usize, slots: &[u16], n: u16) -> usize
-    requires { Fit (names_lent terms ends text) names slots.now }
-    ensures { (result ≡ length (text_of (entries_of (names_before terms ends text) names) n)) × (result ≤ 32768) }
+    requires { Fit (lanes_of terms.now ends.now text.now) names slots.now }
+    ensures { (result ≡ length (text_of (entries_of (lanes_of terms.now ends.now text.now) names) n)) × (result ≤ 32768) }
 {
     if n < names::five::NONE {
         return names::five::size_of(n);
@@ -47,8 +46,8 @@ fn put_text(
     slots: &[u16],
     n: u16,
 ) -> usize
-    requires { FitInto (names_lent terms ends text) names slots.now out.old at (λ es. text_of es n) }
-    ensures { LaidFrom (names_before terms ends text) names out.old out.new at result (λ es. text_of es n) }
+    requires { FitInto (lanes_of terms.now ends.now text.now) names slots.now out.old at (λ es. text_of es n) }
+    ensures { LaidFrom (lanes_of terms.now ends.now text.now) names out.old out.new at result (λ es. text_of es n) }
 {
     if n < names::five::NONE {
         names::five::put_five(out, at, n);
@@ -70,8 +69,8 @@ pub fn term_size(
     slots: &[u16],
     n: u16,
 ) -> usize
-    requires { Fit (names_lent terms ends text) names slots.now }
-    ensures { (result ≡ length (term_bytes (entries_of (names_before terms ends text) names) n)) × (result ≤ 32770) }
+    requires { Fit (lanes_of terms.now ends.now text.now) names slots.now }
+    ensures { (result ≡ length (term_bytes (entries_of (lanes_of terms.now ends.now text.now) names) n)) × (result ≤ 32770) }
 {
     let size = text_size(terms, ends, text, names, slots, n);
     if term::sort_of(n) < term::LITERAL {
@@ -91,8 +90,8 @@ fn put_term(
     slots: &[u16],
     n: u16,
 ) -> usize
-    requires { FitInto (names_lent terms ends text) names slots.now out.old at (λ es. term_bytes es n) }
-    ensures { LaidFrom (names_before terms ends text) names out.old out.new at result (λ es. term_bytes es n) }
+    requires { FitInto (lanes_of terms.now ends.now text.now) names slots.now out.old at (λ es. term_bytes es n) }
+    ensures { LaidFrom (lanes_of terms.now ends.now text.now) names out.old out.new at result (λ es. term_bytes es n) }
 {
     let sort = term::sort_of(n);
     if sort == term::NAME {
@@ -119,8 +118,8 @@ fn put_part(
     slots: &[u16],
     n: u16,
 ) -> usize
-    requires { FitInto (names_lent terms ends text) names slots.now out.old at (λ es. part_bytes es n) }
-    ensures { LaidFrom (names_before terms ends text) names out.old out.new at result (λ es. part_bytes es n) }
+    requires { FitInto (lanes_of terms.now ends.now text.now) names slots.now out.old at (λ es. part_bytes es n) }
+    ensures { LaidFrom (lanes_of terms.now ends.now text.now) names out.old out.new at result (λ es. part_bytes es n) }
 {
     let end = put_term(out, at, terms, ends, text, names, slots, n);
     out[end] = BLANK;
@@ -138,8 +137,8 @@ pub fn line_size(
     p: u16,
     o: u16,
 ) -> usize
-    requires { Fit (names_lent terms ends text) names slots.now }
-    ensures { (result ≡ length (line_bytes (entries_of (names_before terms ends text) names) s p o)) × (result ≤ 98315) }
+    requires { Fit (lanes_of terms.now ends.now text.now) names slots.now }
+    ensures { (result ≡ length (line_bytes (entries_of (lanes_of terms.now ends.now text.now) names) s p o)) × (result ≤ 98315) }
 {
     let subject = term_size(terms, ends, text, names, slots, s);
     let predicate = term_size(terms, ends, text, names, slots, p);
@@ -160,8 +159,8 @@ pub fn put_line(
     p: u16,
     o: u16,
 ) -> usize
-    requires { FitInto (names_lent terms ends text) names slots.now out.old at (λ es. line_bytes es s p o) }
-    ensures { LaidFrom (names_before terms ends text) names out.old out.new at result (λ es. line_bytes es s p o) }
+    requires { FitInto (lanes_of terms.now ends.now text.now) names slots.now out.old at (λ es. line_bytes es s p o) }
+    ensures { LaidFrom (lanes_of terms.now ends.now text.now) names out.old out.new at result (λ es. line_bytes es s p o) }
 {
     let second = put_part(out, at, terms, ends, text, names, slots, s);
     let third = put_part(out, second, terms, ends, text, names, slots, p);

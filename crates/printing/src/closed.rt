@@ -1,7 +1,6 @@
 // The listing of a closed table: its header, and a line for each row.
 ghost use Rattle.std.specs.Prelude.{◌+◌, ◌*◌, ◌≤◌, length};
-ghost use Rattle.table.specs.Rows.{rows_of};
-ghost use Rattle.table.specs.Lent.{lent, before};
+ghost use Rattle.table.specs.Rows.{lanes, rows_of};
 ghost use Rattle.table.specs.Places.{RowsWithin};
 ghost use Rattle.printing.specs.Text.{row_line, row_lines, closed_listing};
 ghost use Rattle.printing.specs.Laid.{Fits, Laid, LaidWithin};
@@ -29,8 +28,8 @@ fn put_rows(
     ann: &[u64],
     count: usize,
 ) -> usize
-    requires { RowsWithin (lent subj pred obj ann) count × (at + count * 39 ≤ length out.old) }
-    ensures { LaidWithin out.old out.new at result (row_lines (rows_of (before subj pred obj ann) count)) (count * 39) }
+    requires { RowsWithin (lanes subj.now pred.now obj.now ann.now) count × (at + count * 39 ≤ length out.old) }
+    ensures { LaidWithin out.old out.new at result (row_lines (rows_of (lanes subj.now pred.now obj.now ann.now) count)) (count * 39) }
 {
     let mut next = at;
     let mut i = 0;
@@ -52,8 +51,8 @@ pub fn put_closed(
     ann: &[u64],
     count: usize,
 ) -> usize
-    requires { RowsWithin (lent subj pred obj ann) count × (70 + count * 39 ≤ length out.old) }
-    ensures { LaidWithin out.old out.new 0 result (closed_listing kind base (rows_of (before subj pred obj ann) count)) (70 + count * 39) }
+    requires { RowsWithin (lanes subj.now pred.now obj.now ann.now) count × (70 + count * 39 ≤ length out.old) }
+    ensures { LaidWithin out.old out.new 0 result (closed_listing kind base (rows_of (lanes subj.now pred.now obj.now ann.now) count)) (70 + count * 39) }
 {
     let numbers = [kind as u64, base as u64, count as u64];
     let rows = put_line(out, 0, b"closed", &numbers);

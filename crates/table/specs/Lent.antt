@@ -1,11 +1,11 @@
 -- A table as it is lent: four references to lanes, where a call begins and where it ends.
 use Rattle.std.specs.Prelude.{List, ℕ}
-use Rattle.std.specs.Borrow.{Bor}
+use Rattle.std.specs.Borrow.{MutBor}
 use denote.Triple.Both.{Both}
 use Rattle.table.specs.Rows.{Lanes, lanes}
 
 abbrev pub Lane : Type 0
-Lane = Bor (List ℕ)
+Lane = MutBor (List ℕ)
 
 abbrev pub lent : Lane → Lane → Lane → Lane → Lanes
 lent s p o a = lanes s.now p.now o.now a.now

@@ -1,8 +1,7 @@
 // The refusals of a triple, of a row, of all rows, and of the lanes.
 ghost use Rattle.std.specs.Prelude.{◌≡◌};
-ghost use Rattle.table.specs.Lent.{before, lent};
 ghost use Rattle.term.specs.Refusal.{first};
-ghost use Rattle.table.specs.Rows.{row};
+ghost use Rattle.table.specs.Rows.{lanes, row};
 ghost use Rattle.table.specs.Checks.{triple_checks, row_checks, rows_checks, is_not_above, is_unfit};
 ghost use Rattle.table.specs.Places.{Within, RowWithin, RowsWithin};
 
@@ -43,8 +42,8 @@ fn not_above(subj: &[u16], pred: &[u16], obj: &[u16], i: usize) -> bool
 
 // The refusal of row i, 0 where it is legal and above the one before.
 fn row_refusal(kind: u8, subj: &[u16], pred: &[u16], obj: &[u16], ann: &[u64], i: usize) -> u8
-    requires { RowWithin (lent subj pred obj ann) i }
-    ensures { result ≡ (first (row_checks kind (before subj pred obj ann) i)).number }
+    requires { RowWithin (lanes subj.now pred.now obj.now ann.now) i }
+    ensures { result ≡ (first (row_checks kind (lanes subj.now pred.now obj.now ann.now) i)).number }
 {
     let number = triple_refusal(kind, subj[i], pred[i], obj[i], ann[i]);
     if number > 0 {
@@ -65,8 +64,8 @@ pub fn rows_verdict(
     ann: &[u64],
     count: usize,
 ) -> Verdict
-    requires { RowsWithin (lent subj pred obj ann) count }
-    ensures { result ≡ first (rows_checks kind (before subj pred obj ann) 0 count) }
+    requires { RowsWithin (lanes subj.now pred.now obj.now ann.now) count }
+    ensures { result ≡ first (rows_checks kind (lanes subj.now pred.now obj.now ann.now) 0 count) }
 {
     let mut i = 0;
     while i < count {
@@ -84,7 +83,7 @@ pub fn rows_verdict(
 
 // Whether the lanes are unequal or too long.
 pub fn unfit(subj: &[u16], pred: &[u16], obj: &[u16], ann: &[u64]) -> bool
-    ensures { result ≡ is_unfit (before subj pred obj ann) }
+    ensures { result ≡ is_unfit (lanes subj.now pred.now obj.now ann.now) }
 {
     if pred.len() != subj.len() {
         return true;

@@ -4,7 +4,7 @@
 
 ghost use Rattle.std.specs.Prelude.{◌≡◌, cond};
 ghost use Rattle.table.specs.Lent.{before, after};
-ghost use Rattle.table.specs.Rows.{row};
+ghost use Rattle.table.specs.Rows.{lanes, row};
 ghost use Rattle.table.specs.Checks.{Checking};
 ghost use Rattle.table.specs.Adding.{Adding};
 
@@ -44,7 +44,7 @@ pub fn check(
     ann: &[u64],
     count: usize,
 ) -> Verdict
-    ensures { Checking kind (before subj pred obj ann) count result }
+    ensures { Checking kind (lanes subj.now pred.now obj.now ann.now) count result }
 {
     if annotation::kind_refusal(kind) > 0 {
         return Verdict {

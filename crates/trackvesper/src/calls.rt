@@ -2,7 +2,7 @@
 // steps are lent as records, answer the page's own structs.
 ghost use Rattle.std.specs.Prelude.{length};
 ghost use Rattle.term.specs.Refusal.{verdict};
-ghost use Rattle.table.specs.Rows.{row};
+ghost use Rattle.table.specs.Rows.{lanes, row};
 ghost use Rattle.table.specs.Lent.{before, after};
 ghost use Rattle.table.specs.Checks.{Checking};
 ghost use Rattle.table.specs.Adding.{Adding};
@@ -31,7 +31,7 @@ pub extern "C" fn trackvesper_check(
     count: usize,
     place: &mut usize,
 ) -> u8
-    ensures { Checking kind (before subj pred obj ann) count (verdict result place.new) }
+    ensures { Checking kind (lanes subj.now pred.now obj.now ann.now) count (verdict result place.new) }
 {
     let answer = check(kind, subj, pred, obj, ann, count);
     *place = answer.place;
@@ -101,7 +101,7 @@ pub extern "C" fn trackvesper_write(
     place: &mut usize,
     length: &mut usize,
 ) -> u8
-    ensures { Writing kind base rules (before subj pred obj ann) count out.old out.new result place.new length.new }
+    ensures { Writing kind base rules (lanes subj.now pred.now obj.now ann.now) count out.old out.new result place.new length.new }
 {
     let answer = write(kind, base, rules, subj, pred, obj, ann, count, out);
     *place = answer.place;
@@ -152,7 +152,7 @@ pub extern "C" fn trackvesper_run(
     terms: &mut [u16],
     anns: &mut [u64],
 ) -> RunDone
-    ensures { Ran (running kind (before subj pred obj ann) count terms.old anns.old records.now (length records.now) steps allowed) result.number result.place result.answers result.looks terms.old anns.old terms.new anns.new }
+    ensures { Ran (running kind (lanes subj.now pred.now obj.now ann.now) count terms.old anns.old records.now (length records.now) steps allowed) result.number result.place result.answers result.looks terms.old anns.old terms.new anns.new }
 {
     run(
         kind, subj, pred, obj, ann, count, records, steps, allowed, terms, anns,
@@ -176,7 +176,7 @@ pub extern "C" fn trackvesper_ask(
     answers: &mut usize,
     looks: &mut u32,
 ) -> u8
-    ensures { Ran (asking kind (before subj pred obj ann) count terms.old anns.old question.now allowed) result place.new answers.new looks.new terms.old anns.old terms.new anns.new }
+    ensures { Ran (asking kind (lanes subj.now pred.now obj.now ann.now) count terms.old anns.old question.now allowed) result place.new answers.new looks.new terms.old anns.old terms.new anns.new }
 {
     let answer = ask(
         kind, subj, pred, obj, ann, count, question, allowed, terms, anns,

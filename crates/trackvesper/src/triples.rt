@@ -2,6 +2,8 @@
 ghost use Rattle.table.specs.Lent.{before, after};
 ghost use Rattle.names.specs.Lent.{names_before, names_after};
 ghost use Rattle.trackvesper.specs.Triples.{ReadTriplesExported, WriteTriplesExported};
+ghost use Rattle.table.specs.Rows.{lanes};
+ghost use Rattle.names.specs.Names.{lanes_of};
 
 use crate::pack;
 use ntread::read_triples;
@@ -48,7 +50,7 @@ pub extern "C" fn trackvesper_write_triples(
     names: usize,
     out: &mut [u8],
 ) -> u64
-    ensures { WriteTriplesExported kind (before subj pred obj ann) count (names_before terms ends text) names out.old out.new result }
+    ensures { WriteTriplesExported kind (lanes subj.now pred.now obj.now ann.now) count (lanes_of terms.now ends.now text.now) names out.old out.new result }
 {
     let done = write_triples(
         kind, subj, pred, obj, ann, count, terms, ends, text, names, out,
