@@ -21,8 +21,7 @@ use steplist::{Filled, ask, compile, run};
 use table::{add, check};
 
 // Checks a table.
-#[unsafe(no_mangle)]
-pub extern "C" fn trackvesper_check(
+pub fn trackvesper_check(
     kind: u8,
     subj: &[u16],
     pred: &[u16],
@@ -39,8 +38,7 @@ pub extern "C" fn trackvesper_check(
 }
 
 // Adds a triple; count goes in as the table's count and comes out as the new one.
-#[unsafe(no_mangle)]
-pub extern "C" fn trackvesper_add(
+pub fn trackvesper_add(
     kind: u8,
     subj: &mut [u16],
     pred: &mut [u16],
@@ -62,8 +60,7 @@ pub extern "C" fn trackvesper_add(
 }
 
 // Reads a book into the lanes.
-#[unsafe(no_mangle)]
-pub extern "C" fn trackvesper_read(
+pub fn trackvesper_read(
     book: &[u8],
     subj: &mut [u16],
     pred: &mut [u16],
@@ -87,8 +84,7 @@ pub extern "C" fn trackvesper_read(
 }
 
 // Writes a table as a book.
-#[unsafe(no_mangle)]
-pub extern "C" fn trackvesper_write(
+pub fn trackvesper_write(
     kind: u8,
     base: u16,
     rules: u8,
@@ -110,8 +106,7 @@ pub extern "C" fn trackvesper_write(
 }
 
 // Closes a table under a rule set; count goes in as the table's count and comes out as the new one.
-#[unsafe(no_mangle)]
-pub extern "C" fn trackvesper_close(
+pub fn trackvesper_close(
     kind: u8,
     rules: u8,
     subj: &mut [u16],
@@ -130,16 +125,14 @@ pub extern "C" fn trackvesper_close(
 }
 
 // Compiles a question into the records lent.
-#[unsafe(no_mangle)]
-pub extern "C" fn trackvesper_compile(kind: u8, bytes: &[u8], records: &mut [StepRecord]) -> Filled
+pub fn trackvesper_compile(kind: u8, bytes: &[u8], records: &mut [StepRecord]) -> Filled
     ensures { Filling kind bytes.now records.old result.number result.place result.count records.new }
 {
     compile(kind, bytes, records)
 }
 
 // Runs the first `steps` of the records lent over a table, with some looks allowed.
-#[unsafe(no_mangle)]
-pub extern "C" fn trackvesper_run(
+pub fn trackvesper_run(
     kind: u8,
     subj: &[u16],
     pred: &[u16],
@@ -160,8 +153,7 @@ pub extern "C" fn trackvesper_run(
 }
 
 // Asks a question of a table, with some looks allowed.
-#[unsafe(no_mangle)]
-pub extern "C" fn trackvesper_ask(
+pub fn trackvesper_ask(
     kind: u8,
     subj: &[u16],
     pred: &[u16],

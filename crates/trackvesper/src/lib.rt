@@ -21,8 +21,9 @@ pub use machine::RunDone;
 pub use question::StepRecord;
 pub use steplist::{Filled, ask, compile, run};
 
-mod calls;
-mod triples;
+// What C calls (the static library trackvesper_c exports it).
+pub mod calls;
+pub mod triples;
 
 // What a number counts in a word that holds a length or place beside it.
 const A_NUMBER: u64 = 4294967296;
@@ -73,8 +74,7 @@ fn close_into(
 }
 
 // Closes a book: number * 2^32 + the length written, or + the place of a refusal, which leaves the output as it was.
-#[unsafe(no_mangle)]
-pub extern "C" fn trackvesper_close_book(book: &[u8], out: &mut [u8]) -> u64
+pub fn trackvesper_close_book(book: &[u8], out: &mut [u8]) -> u64
     ensures { ClosedBook book.now out.old out.new result }
 {
     let mut subj = [0u16; 1024];

@@ -13,8 +13,7 @@ use ntriples::write_triples;
 const A_NAME: u64 = 65536;
 
 // Reads N-Triples: names * 2^16 + rows, or number * 2^32 + the place of a refusal.
-#[unsafe(no_mangle)]
-pub extern "C" fn trackvesper_read_triples(
+pub fn trackvesper_read_triples(
     kind: u8,
     a: u64,
     file: &[u8],
@@ -36,8 +35,7 @@ pub extern "C" fn trackvesper_read_triples(
 }
 
 // Writes N-Triples: the length, or number * 2^32 + the place of a refusal, which leaves the output as it was.
-#[unsafe(no_mangle)]
-pub extern "C" fn trackvesper_write_triples(
+pub fn trackvesper_write_triples(
     kind: u8,
     subj: &[u16],
     pred: &[u16],
