@@ -2,13 +2,13 @@
 use mathlib.Core.Path.{◌≡◌, refl}
 use mathlib.Core.Bool.{true, false, ◌&&◌, and-false}
 use mathlib.Core.List.{List}
-use Prim.Native.Nat.{ℕ, zero, suc, ◌-◌, ◌≤◌, ◌<◌}
+use Prim.Native.Nat.{ℕ, zero, suc, ◌≤◌, ◌<◌}
 use lib.Dec.{eqb, ltb}
 use lib.ListN.{length}
 use borrow.Author.Tests.{eq-eqb, ne_eqb, lt-ltb, le-ltb}
 use Rattle.names.specs.declared.find.Found.TheVariants.{Number}
 use Rattle.names.specs.Names.{Entry, NameLanes, is_unfit_list}
-use Rattle.names.specs.Entering.{number, lookup, five_number, lookup_five, known, first_of}
+use Rattle.names.specs.Entering.{lookup, five_number, lookup_five, known, first_of}
 use Rattle.names.specs.Finding.{number_for}
 
 -- ---- whether the lanes fit

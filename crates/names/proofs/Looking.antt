@@ -10,7 +10,7 @@ use lib.ListN.{length, get_or, drop, drop_of_length-le}
 use borrow.Author.Tests.{eq-eqb, ne_eqb}
 use Rattle.ground.proofs.Tab.{tab-length}
 use Rattle.names.specs.Names.{Entry, NameLanes, text_at_lem, entry_at, entries_of, text_in}
-use Rattle.names.specs.Entering.{is_of, number, count_of}
+use Rattle.names.specs.Entering.{is_of, count_of}
 use Rattle.names.specs.Finding.{NotBefore, FirstWith}
 use Rattle.names.proofs.Entries.{drop-tab}
 

@@ -4,7 +4,7 @@ use Rattle.term.specs.Term.{sort_of}
 use Rattle.names.specs.declared.Entered.{Entered}
 use Rattle.names.specs.declared.Entered.TheVariants.{Listed, New, Full}
 use Rattle.names.specs.Five.{five_text}
-use Rattle.names.specs.Names.{Entry, entry, NameLanes, start_of, entries_of}
+use Rattle.names.specs.Names.{Entry, entry, NameLanes, start_of}
 
 -- N17: "Texts are compared byte by byte"
 unfoldable pub same_text_lem : List ℕ → List ℕ → Bool

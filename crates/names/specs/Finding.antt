@@ -1,12 +1,12 @@
 -- What the parts of the code find and do.
-use Rattle.std.specs.Prelude.{◌≡◌, Bool, true, false, cond, List, ℕ, ◌+◌, ◌≤◌, ◌<◌, ltb, length, get_or, set}
+use Rattle.std.specs.Prelude.{◌≡◌, cond, List, ℕ, ◌+◌, ◌≤◌, ◌<◌, ltb, length, get_or, set}
 use Rattle.std.proofs.Math.Seq.{slice, paste}
 use Rattle.names.specs.declared.Entered.{Entered}
 use Rattle.names.specs.declared.Entered.TheVariants.{New, Full}
 use Rattle.names.specs.declared.find.Found.{Found}
 use Rattle.names.specs.declared.find.Found.TheVariants.{Number, Missing}
 use Rattle.names.specs.Names.{Entry, NameLanes, lanes_of, start_of, text_at_lem, entries_of, text_in}
-use Rattle.names.specs.Entering.{Lookup, none, number, lookup, known, count_of, next_of, has_room_lem, Listing, entries_after, count_after}
+use Rattle.names.specs.Entering.{Lookup, none, number, known, next_of, Listing, entries_after, count_after}
 
 -- so many bytes from two positions on are the same
 abbrev pub SameIn : List ℕ → ℕ → List ℕ → ℕ → ℕ → Type 0

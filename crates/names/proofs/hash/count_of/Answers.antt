@@ -1,9 +1,9 @@
 use mathlib.Core.Path.{sym, ◌∙◌}
-use mathlib.Core.Logic.{⊎_elim}
 use native.Mathlib.Omega.{arith}
 use Rattle.names.specs.Names.{lanes_of, entries_of}
 use Rattle.names.proofs.Hashing.{count-start, count-here, count-other, count-end}
 use Rattle.names.proofs.hash.count_of.Goals as goal
+use Rattle.names.proofs.hash.count_of.Goals.{then-sort_of-sort, else-sort_of-sort}
 
 pub loop-i-init : goal.loop-i-init
 loop-i-init c =
@@ -30,10 +30,10 @@ loop-i-preserved c =
     let the-if1 = c.if-sort_of-sort in
     let l = lanes_of the-args.terms.now the-args.ends.now the-args.text.now in (
       omega (arith, the-loop-test.true),
-      ⊎_elim
-          (λ w. count-here l the-args.names the-args.sort the-loop.i the-loop.count the-loop.invariant.1 the-loop-test.true (sym the-sort-of.ensures ∙ w.0.taken) the-if1.count (omega (arith, w.1)))
-          (λ w. count-other l the-args.names the-args.sort the-loop.i the-loop.count the-loop.invariant.1 the-loop-test.true (λ e. w.0.left (the-sort-of.ensures ∙ e)) the-if1.count (omega (arith, w.1)))
-          the-if1.branch,
+      elim the-if1.branch [
+        | then-sort_of-sort w ↦ count-here l the-args.names the-args.sort the-loop.i the-loop.count the-loop.invariant.1 the-loop-test.true (sym the-sort-of.ensures ∙ w.if-sort_of-sort.true) the-if1.count (omega (arith, w.count-is))
+        | else-sort_of-sort w ↦ count-other l the-args.names the-args.sort the-loop.i the-loop.count the-loop.invariant.1 the-loop-test.true (λ e. w.if-sort_of-sort.false (the-sort-of.ensures ∙ e)) the-if1.count (omega (arith, w.count-is))
+      ],
     )
 
 pub returns : goal.returns

@@ -1,6 +1,4 @@
 use mathlib.Core.Path.{ap, sym, ◌∙◌}
-use mathlib.Core.Bool.{true, false}
-use mathlib.Core.Logic.{⊎_elim}
 use Prim.Native.Nat.{ℕ, ◌-◌}
 use native.Mathlib.Omega.{arith}
 use lib.ListN.{length, take}
@@ -9,6 +7,7 @@ use Rattle.names.specs.Names.{lanes_of, entry_at, entries_of}
 use Rattle.names.specs.Hashed.{hash_at, last_below}
 use Rattle.names.proofs.Hashing.{chain_start, chain_on, chain_end, chain_as, last-low, in_chain}
 use Rattle.names.proofs.hash.find_by_hash.Goals as goal
+use Rattle.names.proofs.hash.find_by_hash.Goals.{then-is_entry, else-is_entry}
 
 pub bounds-heads-h : goal.bounds-heads-h
 bounds-heads-h c =
@@ -29,6 +28,24 @@ is_entry-requires c =
     let the-loop = c.loop-p in
     let the-loop-test = c.loop-p-test in
     (the-pre.0, in_chain (lanes_of the-args.terms.now the-args.ends.now the-args.text.now) the-args.names the-args.sort (take the-args.size the-args.word.now) the-loop.p _ _ the-loop.invariant the-loop-test.true, the-pre.2)
+
+pub offset_bounds-terms-i : goal.offset_bounds-terms-i
+offset_bounds-terms-i c =
+    let the-args = c.args in
+    let the-loop = c.loop-p in
+    let the-loop-test = c.loop-p-test in
+    let the-pre = c.requires in
+    let b = in_chain (lanes_of the-args.terms.now the-args.ends.now the-args.text.now) the-args.names the-args.sort (take the-args.size the-args.word.now) the-loop.p _ _ the-loop.invariant the-loop-test.true in
+    omega (arith, b, the-pre.0.room, the-pre.0.few)
+
+pub offset_bounds-next-i : goal.offset_bounds-next-i
+offset_bounds-next-i c =
+    let the-args = c.args in
+    let the-loop = c.loop-p in
+    let the-loop-test = c.loop-p-test in
+    let the-pre = c.requires in
+    let b = in_chain (lanes_of the-args.terms.now the-args.ends.now the-args.text.now) the-args.names the-args.sort (take the-args.size the-args.word.now) the-loop.p _ _ the-loop.invariant the-loop-test.true in
+    omega (arith, b, the-pre.0.room, the-pre.0.few)
 
 pub bounds-terms-i : goal.bounds-terms-i
 bounds-terms-i c =
@@ -75,10 +92,10 @@ loop-p-preserved c =
     let b = in_chain l the-args.names the-args.sort word the-loop.p _ _ the-loop.invariant the-loop-test.true in
     let n = the-pre.1.next_are (the-loop.p - 1) (rw (tab-length the-args.names (entry_at l)) b) in
     let on = chain_on l the-args.names the-pre.0 (the-loop.p - 1) b the-args.sort word the-loop.p _ the-loop.there _ the-loop.number the-loop.invariant (omega (arith, the-loop-test.true)) the-is-entry.ensures n in
-    ⊎_elim
-    (λ w. chain_as es the-args.sort word _ _ _ _ _ on (rw w.0.taken (sym w.2)) (rw w.0.taken (sym w.3)))
-    (λ w. chain_as es the-args.sort word _ _ _ _ _ on (rw w.0.left (sym w.1)) (rw w.0.left (sym w.2)))
-    the-if1.branch
+    elim the-if1.branch [
+      | then-is_entry w ↦ chain_as es the-args.sort word _ _ _ _ _ on (rw w.if-is_entry.true (sym w.there-is)) (rw w.if-is_entry.true (sym w.number-is))
+      | else-is_entry w ↦ chain_as es the-args.sort word _ _ _ _ _ on (rw w.if-is_entry.false (sym w.there-is)) (rw w.if-is_entry.false (sym w.number-is))
+    ]
 
 pub returns : goal.returns
 returns c =

@@ -1,5 +1,4 @@
 use mathlib.Core.Path.{ap, ◌∙◌}
-use mathlib.Core.Logic.{⊎_elim}
 use native.Mathlib.Omega.{arith}
 use lib.ListN.{take}
 use Rattle.names.specs.declared.find.Found.TheVariants.{Number}
@@ -7,6 +6,7 @@ use Rattle.names.specs.Names.{lanes_of, entries_of}
 use Rattle.names.proofs.Answering.{for_five, no_five_name, no_five_sort}
 use Rattle.names.proofs.Hashing.{number-there, number-next}
 use Rattle.names.proofs.hash.number_by_hash.Goals as goal
+use Rattle.names.proofs.hash.number_by_hash.Goals.{then-sort-eq-NAME+else-five-lt-NONE, else-sort-eq-NAME}
 
 pub number_of-five-requires : goal.number_of-five-requires
 number_of-five-requires c =
@@ -37,7 +37,7 @@ returns-then-m c =
     let es = entries_of (lanes_of the-args.terms.now the-args.ends.now the-args.text.now) the-args.names in
     let word = take the-args.size the-args.word.now in
     number-there es the-args.sort word
-    (⊎_elim (λ w. no_five_name es the-args.sort word (omega (arith, w.1.ensures, w.2.left))) (λ w. no_five_sort es the-args.sort word w.left) the-if1.branch)
+    (elim the-if1.branch [ then-sort-eq-NAME+else-five-lt-NONE w ↦ no_five_name es the-args.sort word (omega (arith, w.number_of-five.ensures, w.if-five-lt-NONE.false)) | else-sort-eq-NAME w ↦ no_five_sort es the-args.sort word w.if-sort-eq-NAME.false ])
     _ _ the-find-by-hash.ensures the-if3.true
 
 pub count_of-requires : goal.count_of-requires
@@ -56,5 +56,5 @@ returns c =
     let es = entries_of (lanes_of the-args.terms.now the-args.ends.now the-args.text.now) the-args.names in
     let word = take the-args.size the-args.word.now in
     number-next es the-args.sort word
-    (⊎_elim (λ w. no_five_name es the-args.sort word (omega (arith, w.1.ensures, w.2.left))) (λ w. no_five_sort es the-args.sort word w.left) the-if1.branch)
+    (elim the-if1.branch [ then-sort-eq-NAME+else-five-lt-NONE w ↦ no_five_name es the-args.sort word (omega (arith, w.number_of-five.ensures, w.if-five-lt-NONE.false)) | else-sort-eq-NAME w ↦ no_five_sort es the-args.sort word w.if-sort-eq-NAME.false ])
     _ _ the-find-by-hash.ensures the-if3.false _ _ the-first-of.ensures.0 the-count-of.ensures.0
