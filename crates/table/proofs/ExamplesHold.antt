@@ -1,6 +1,5 @@
 -- The examples hold for the definitions. Assumes nothing.
 use mathlib.Core.Path.{refl}
-use mathlib.Core.List.{[]}
 use Rattle.ground.specs.Lists.{Every}
 use Rattle.term.specs.Refusal.{first}
 use Rattle.annotation.specs.Kinds.{is_kind, algebra}

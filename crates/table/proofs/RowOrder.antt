@@ -1,13 +1,11 @@
 -- The order by keys is the order by subject, then predicate, then object; so what the check asks of rows (15), and what a sound table has, is that
 -- order. By arithmetic: terms are below 65,536. Assumes nothing.
-use mathlib.Core.Path.{◌≡◌, refl}
+use mathlib.Core.Path.{◌≡◌}
 use mathlib.Core.Bool.{true}
 use mathlib.Core.Logic.{◌↔◌, ◌⊎◌, inl, inr}
-use mathlib.Core.List.{List}
 use Prim.Native.Nat.{ℕ, suc, ◌≤◌, ◌<◌}
 use native.Mathlib.Decide.{dec_lt}
 use native.Mathlib.Omega.{arith}
-use lib.Dec.{leb}
 use borrow.Author.Tests.{leb-true, le-leb}
 use Rattle.table.specs.Rows.{Row, Lanes, key, row_at}
 use Rattle.table.specs.Checks.{is_not_above}
