@@ -1,15 +1,15 @@
 -- What the grammar has is heard, and as what the grammar says that it means. So no line means two things. Assumes nothing.
 use mathlib.Core.Path.{◌≡◌, refl, sym, ap, ◌∙◌}
-use mathlib.Core.Bool.{Bool, true, false, cond, ◌&&◌, ◌||◌, true≢false}
+use mathlib.Core.Bool.{Bool, true, false, cond}
 use mathlib.Core.List.{List, [], ◌∷◌, ◌++◌, append_assoc}
 use Prim.Native.Nat.{ℕ, ◌≤◌}
 use native.Mathlib.Omega.{arith}
 use lib.Dec.{eqb, leb}
 use borrow.Author.Tests.{eq-eqb, ne_eqb, leb-true}
-use Rattle.ntline.specs.declared.lexing.State.TheVariants.{White, Label, Letters, Alnums}
+use Rattle.ntline.specs.declared.lexing.State.TheVariants.{Label}
 use Rattle.ntline.specs.Grammar as grammar
 use Rattle.ntline.specs.Lexing.{Token, token_is, munched, token_of}
-use Rattle.ntline.specs.Lines.{is_nil, spaced, is_over, Source, source, literal_of, source_of, is_dotted, Parsed, parsed, empty, object_of, predicate_of, subject_of, line_of, meant_by, Heard, heard, said_by}
+use Rattle.ntline.specs.Lines.{is_nil, is_over, Source, source, source_of, is_dotted, parsed, empty, object_of, predicate_of, subject_of, line_of, meant_by, heard, said_by}
 use Rattle.ntline.proofs.Words.{Stops}
 use Rattle.ntline.proofs.Saying.{Front, iri-front, label-front, spaced-front, is_over_lem, is-dotted}
 use Rattle.ntline.proofs.Hearing.{label-stops, letters_stops, alnums_stops, label-before, name_source, blank-source, string-source, bare-literal, tagged_literal, typed_literal, meant_name, meant_blank, meant_literal, plain-mark, tag_mark, type-mark}

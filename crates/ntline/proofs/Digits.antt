@@ -1,19 +1,18 @@
 -- The digits of an escape, fed one by one, make its number: shown once, for whatever is fed. Assumes nothing.
-use mathlib.Core.Path.{◌≡◌, refl, sym, ap, ◌∙◌}
-use mathlib.Core.Bool.{Bool, true, false, cond, true≢false}
-use mathlib.Core.List.{List, [], ◌∷◌, ◌++◌}
-use Prim.Native.Nat.{ℕ, zero, suc, ◌+◌, ◌-◌, ◌*◌, ◌≤◌, ◌<◌}
+use mathlib.Core.Path.{◌≡◌, refl, ap, ◌∙◌}
+use mathlib.Core.Bool.{Bool, true, false, cond}
+use mathlib.Core.List.{List, ◌∷◌, ◌++◌}
+use Prim.Native.Nat.{ℕ, zero, suc, ◌+◌, ◌-◌, ◌*◌, ◌≤◌}
 use native.Mathlib.Omega.{arith}
 use lib.Dec.{eqb, leb}
-use borrow.Author.Tests.{leb-true, le-leb, ne_eqb, eqb-true}
+use borrow.Author.Tests.{leb-true, le-leb, ne_eqb}
 use Rattle.utf8.specs.Characters.{within, is_character_lem}
-use Rattle.utf8.specs.Texts.{bad}
-use Rattle.utf8.proofs.Judged.{and_left, and_right}
+use Rattle.utf8.proofs.Judged.{and_right}
 use Rattle.ntline.specs.declared.escapes.Fed.{Fed}
 use Rattle.ntline.specs.Classes.{is_hex_lem, is_digit_lem, hex_value}
 use Rattle.ntline.specs.Grammar.{Hexes}
-use Rattle.ntline.specs.Escapes.{part, fed, reckoned, shifted, hexed_by, fed_by}
-use Rattle.ntline.proofs.Bools.{second, differs}
+use Rattle.ntline.specs.Escapes.{part, reckoned, shifted, hexed_by, fed_by}
+use Rattle.ntline.proofs.Bools.{second}
 
 -- a HEX is below 16
 pub hex_small : (c : ℕ) → is_hex_lem c ≡ true → hex_value c ≤ 15

@@ -1,21 +1,21 @@
 -- A line of bytes says what is heard of its characters, and nothing else: sound, complete, unambiguous. Assumes nothing.
-use mathlib.Core.Path.{◌≡◌, refl, sym, ap, subst, ◌∙◌}
-use mathlib.Core.Bool.{Bool, true, false, cond, ◌&&◌, ◌||◌, true≢false, false≢true}
+use mathlib.Core.Path.{◌≡◌, sym, ap, subst, ◌∙◌}
+use mathlib.Core.Bool.{true, ◌||◌}
 use mathlib.Core.List.{List, [], ◌∷◌, ◌++◌}
 use Prim.Native.Nat.{ℕ, ◌≤◌}
 use native.Mathlib.Omega.{arith}
 use lib.Dec.{eqb, leb}
 use borrow.Author.Tests.{eqb-true, leb-true}
-use Rattle.utf8.specs.Characters.{within, is_character_lem, text_bytes}
+use Rattle.utf8.specs.Characters.{within, is_character_lem}
 use Rattle.utf8.specs.Texts.{chars_of, AllCharacters}
 use Rattle.utf8.proofs.Texts.{chars-of_text, text_of-chars}
 use Rattle.utf8.proofs.Judged.{and_left, and_right, low-character, high_character}
-use Rattle.ntline.specs.Classes.{is_white_lem, is_alpha_lem, is_digit_lem, is_alnum_lem, is_hex_lem, is_iri_char_lem, is_string_char, is_base, is_name_start, is_name_char_lem, is_label_start_lem}
+use Rattle.ntline.specs.Classes.{is_white_lem, is_alpha_lem, is_digit_lem, is_alnum_lem, is_hex_lem, is_base, is_name_start, is_name_char_lem, is_label_start_lem}
 use Rattle.ntline.specs.Grammar as grammar
-use Rattle.ntline.specs.Lines.{line_of, Heard, heard, said_by}
+use Rattle.ntline.specs.Lines.{line_of, heard, said_by}
 use Rattle.ntline.proofs.Bools.{either}
 use Rattle.ntline.proofs.Resolving.{iri-character, string-character}
-use Rattle.ntline.proofs.Complete.{says-heard, says-one}
+use Rattle.ntline.proofs.Complete.{says-heard}
 use Rattle.ntline.proofs.Sound.{heard-says}
 
 -- ---- every class is of characters

@@ -4,12 +4,11 @@ use mathlib.Core.Bool.{Bool, true, false, cond}
 use mathlib.Core.List.{List, [], ◌∷◌, ◌++◌}
 use mathlib.Core.Logic.{◌⊎◌, inl, inr, ⊎_elim}
 use Prim.Native.Nat.{ℕ}
-use native.Mathlib.Omega.{arith}
 use lib.Dec.{eqb}
-use borrow.Author.Tests.{eqb-true, eqb-false}
+use borrow.Author.Tests.{eqb-false}
 use Rattle.ntline.specs.declared.lexing.State.{State}
 use Rattle.ntline.specs.declared.lexing.State.TheVariants.{Start, Dead}
-use Rattle.ntline.specs.Lexing.{step, kind_of, Token, token_is, later_kind, later_rest, munched, token_of}
+use Rattle.ntline.specs.Lexing.{step, kind_of, Token, token_is, munched, token_of}
 
 -- characters that take a state to one where a terminal of a kind may end
 pub data Ends : State → List ℕ → ℕ → Type 0 where

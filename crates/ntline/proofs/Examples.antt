@@ -1,6 +1,6 @@
 -- Lines as theorems over the definitions. Assumes nothing.
 use mathlib.Core.Path.{◌≡◌, refl}
-use mathlib.Core.List.{List, [], ◌∷◌}
+use mathlib.Core.List.{[], ◌∷◌}
 use Rattle.utf8.specs.Characters.{is_character_lem}
 use Rattle.ntline.specs.Classes.{is_white_lem, is_alpha_lem, is_digit_lem, is_alnum_lem, is_hex_lem, hex_value, is_barred, is_iri_char_lem, is_base, is_name_start, is_name_char_lem, is_label_start_lem, is_scheme_char_lem}
 use Rattle.ntline.specs.Grammar.{Said, Sort, Term}

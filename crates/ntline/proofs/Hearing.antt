@@ -1,26 +1,26 @@
 -- Every line that the grammar has is heard as what the grammar says that it means; so it means one thing. Assumes nothing.
 use mathlib.Core.Path.{◌≡◌, refl, sym, ap, subst, ◌∙◌}
-use mathlib.Core.Bool.{Bool, true, false, cond, ◌&&◌, ◌||◌}
+use mathlib.Core.Bool.{Bool, true, false}
 use mathlib.Core.List.{List, [], ◌∷◌, ◌++◌, append_assoc, append-nil}
-use Prim.Native.Nat.{ℕ, suc, ◌+◌, ◌-◌, ◌≤◌}
+use Prim.Native.Nat.{ℕ, ◌-◌}
 use native.Mathlib.Omega.{arith}
-use lib.ListN.{length, take, drop, length-append}
+use lib.ListN.{length, drop, length-append}
 use lib.Seq.{take-append_seam}
-use lib.Dec.{eqb, leb}
-use borrow.Author.Tests.{eq-eqb, ne_eqb, eqb-true}
+use lib.Dec.{eqb}
+use borrow.Author.Tests.{eqb-true}
 use Rattle.ntline.specs.declared.lexing.State.{State}
-use Rattle.ntline.specs.declared.lexing.State.TheVariants.{Dead, White, Label, Dots, Letters, Alnums}
+use Rattle.ntline.specs.declared.lexing.State.TheVariants.{Dead, Label, Dots, Letters, Alnums}
 use Rattle.ntline.specs.Classes.{is_white_lem, is_alpha_lem, is_digit_lem, is_alnum_lem, is_base, is_name_start, is_name_char_lem}
 use Rattle.ntline.specs.Grammar as grammar
 use Rattle.ntline.specs.Escapes.{resolved}
-use Rattle.ntline.specs.Lexing.{in_label, step, kind_of, Token, token_is, munched, token_of}
-use Rattle.ntline.specs.Lines.{is_nil, spaced, is_over, Source, source, typed_of, literal_of, source_of, is_dotted, Parsed, object_of, predicate_of, subject_of, line_of, up_to, inner, mark_of, meant_by, Heard, heard, said_by}
+use Rattle.ntline.specs.Lexing.{in_label, step, Token, munched, token_of}
+use Rattle.ntline.specs.Lines.{spaced, source, typed_of, literal_of, source_of, up_to, inner, mark_of, meant_by}
 use Rattle.ntline.proofs.Bools.{second}
 use Rattle.ntline.proofs.Resolving.{iri-resolved, string-resolved}
 use Rattle.ntline.proofs.Munching.{munched-on}
 use Rattle.ntline.proofs.Words.{Stops, stops_end, stops-dead, label-dot, kind-dots}
 use Rattle.ntline.proofs.Spans.{source-iri, source-label, source-string, literal-tag, literal-hats, literal-bare, typed_iri}
-use Rattle.ntline.proofs.Saying.{Front, iri-front, string-front, label-front, tag_front, hats_front, dot-front, spaced-front, is_over_lem, is-dotted}
+use Rattle.ntline.proofs.Saying.{iri-front, string-front, label-front, tag_front, hats_front, dot-front, spaced-front}
 
 -- ---- what follows a label or a tag does not go on with it
 

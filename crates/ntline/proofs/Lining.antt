@@ -1,15 +1,15 @@
 -- A line by its three terms. Assumes nothing.
-use mathlib.Core.Path.{◌≡◌, refl, sym, ap, ◌∙◌}
-use mathlib.Core.Bool.{Bool, true, false, cond, ◌&&◌}
+use mathlib.Core.Path.{◌≡◌, sym, ap, ◌∙◌}
+use mathlib.Core.Bool.{true, false}
 use mathlib.Core.List.{List}
 use Prim.Native.Nat.{ℕ, ◌≤◌, ◌<◌}
-use lib.Dec.{eqb, leb}
+use lib.Dec.{leb}
 use borrow.Author.Tests.{eq-eqb, ne_eqb, le-leb, lt-leb}
 use Rattle.utf8.specs.Texts.{seen}
 use Rattle.ntline.specs.declared.lines.Span.{Span}
 use Rattle.ntline.specs.declared.lines.Line.{Line}
 use Rattle.ntline.specs.declared.lines.Line.TheVariants.{Bad, Empty, Triple}
-use Rattle.ntline.specs.Lines.{Source, Parsed, source_of, is_dotted, is_over, object_of, predicate_of, subject_of, line_of, SpanOf, LineOf}
+use Rattle.ntline.specs.Lines.{Source, source_of, is_dotted, is_over, object_of, predicate_of, subject_of, line_of, SpanOf, LineOf}
 
 module _ (b : List ℕ) (end : ℕ) (x y z : Span) (s p : Source) where
   -- the object that stands behind the predicate

@@ -1,24 +1,22 @@
 -- What the states let through as an IRI or a string, the grammar has as one. Assumes nothing.
 use mathlib.Core.Path.{◌≡◌, refl, sym, ap, subst, ◌∙◌}
-use mathlib.Core.Bool.{Bool, true, false, cond, ◌&&◌, ◌||◌, true≢false, false≢true}
+use mathlib.Core.Bool.{Bool, true, false, cond, ◌&&◌, ◌||◌, false≢true}
 use mathlib.Core.List.{List, [], ◌∷◌, ◌++◌, append_assoc}
-use Prim.Native.Nat.{ℕ, zero, suc, ◌+◌, ◌≤◌, ◌<◌}
+use Prim.Native.Nat.{ℕ, zero, suc, ◌≤◌, ◌<◌}
 use native.Mathlib.Omega.{arith}
 use lib.ListN.{length, length-append}
-use lib.Dec.{eqb, leb, ltb}
-use borrow.Author.Tests.{eq-eqb, ne_eqb, eqb-true, eqb-false, ltb-true}
+use lib.Dec.{eqb, ltb}
+use borrow.Author.Tests.{eqb-true, ltb-true}
 use Rattle.utf8.specs.Characters.{is_character_lem}
 use Rattle.utf8.specs.Texts.{bad}
 use Rattle.utf8.proofs.Judged.{and_left, and_right}
 use Rattle.ntline.specs.declared.lexing.State.{State}
-use Rattle.ntline.specs.declared.lexing.State.TheVariants.{Dead, Iri, IriEnd, Quoted, QuotedEnd}
-use Rattle.ntline.specs.Classes.{is_alpha_lem, is_iri_char_lem, is_barred, is_string_char, is_scheme_char_lem}
-use Rattle.ntline.specs.Grammar.{is_absolute, has_colon, UCHAR, ECHAR, IriChars, StringChars}
-use Rattle.ntline.specs.Escapes.{part, fed, echar_of, opened_by, fed_by}
-use Rattle.ntline.specs.Lexing.{schemed, iri_goes, in_iri, quoted_goes, in_quoted, step, kind_of}
-use Rattle.ntline.proofs.Bools.{differs}
-use Rattle.ntline.proofs.Digits.{not-part}
-use Rattle.ntline.proofs.Munching.{Way, before, amid, behind, iri-none, iri-feeds, quoted_none, quoted_feeds}
+use Rattle.ntline.specs.declared.lexing.State.TheVariants.{Dead, Iri, IriEnd}
+use Rattle.ntline.specs.Classes.{is_alpha_lem, is_iri_char_lem, is_scheme_char_lem}
+use Rattle.ntline.specs.Grammar.{is_absolute, has_colon, UCHAR, IriChars}
+use Rattle.ntline.specs.Escapes.{part, opened_by, fed_by}
+use Rattle.ntline.specs.Lexing.{schemed, iri_goes, in_iri, step, kind_of}
+use Rattle.ntline.proofs.Munching.{Way, before, amid, behind, iri-none, iri-feeds}
 use Rattle.ntline.proofs.Running.{run, Closing, closing_dead, closing_nil, closing_on, Digits, digits_back}
 
 -- ---- the scheme, backwards

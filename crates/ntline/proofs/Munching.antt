@@ -1,20 +1,20 @@
 -- The longest match, terminal by terminal: what the grammar has is found whole. Assumes nothing.
-use mathlib.Core.Path.{◌≡◌, refl, sym, ap, ◌∙◌}
+use mathlib.Core.Path.{◌≡◌, refl, ap, ◌∙◌}
 use mathlib.Core.Bool.{Bool, true, false, cond, ◌&&◌, ◌||◌, false≢true}
 use mathlib.Core.List.{List, [], ◌∷◌, ◌++◌, append_assoc}
-use Prim.Native.Nat.{ℕ, ◌≤◌}
+use Prim.Native.Nat.{ℕ}
 use native.Mathlib.Omega.{arith}
-use lib.Dec.{eqb, leb, ltb}
-use borrow.Author.Tests.{ne_eqb, eq-eqb, eqb-true}
+use lib.Dec.{eqb, ltb}
+use borrow.Author.Tests.{ne_eqb}
 use Rattle.utf8.specs.Characters.{is_character_lem}
 use Rattle.utf8.proofs.Judged.{and_left, and_right}
 use Rattle.ntline.specs.declared.escapes.Fed.{Fed}
 use Rattle.ntline.specs.declared.lexing.State.{State}
-use Rattle.ntline.specs.declared.lexing.State.TheVariants.{Start, Dead, White, Dot, Hat, Hats, Remark, Under, Colon, Label, Dots, At, Letters, Minus, Alnums, Iri, IriEnd, Quoted, QuotedEnd}
-use Rattle.ntline.specs.Classes.{is_white_lem, is_alpha_lem, is_alnum_lem, is_iri_char_lem, is_barred, is_string_char, is_name_char_lem, is_label_start_lem, is_scheme_char_lem}
+use Rattle.ntline.specs.declared.lexing.State.TheVariants.{Dead, Dot, Hats, Iri, IriEnd, Quoted, QuotedEnd}
+use Rattle.ntline.specs.Classes.{is_white_lem, is_alpha_lem, is_iri_char_lem, is_barred, is_string_char, is_scheme_char_lem}
 use Rattle.ntline.specs.Grammar.{is_absolute, has_colon, UCHAR, ECHAR, IriChars, IRIREF, StringChars, STRING}
-use Rattle.ntline.specs.Escapes.{part, fed, echar_of, opened_by, fed_by}
-use Rattle.ntline.specs.Lexing.{schemed, iri_goes, in_iri, quoted_goes, in_quoted, begun, in_label, step, kind_of, Token, token_is, munched, token_of, a_space, a_dot, a_hats, a_remark, a_label, a_tag, an_iri, a_string}
+use Rattle.ntline.specs.Escapes.{part, echar_of, opened_by, fed_by}
+use Rattle.ntline.specs.Lexing.{schemed, iri_goes, in_iri, quoted_goes, in_quoted, begun, step, kind_of, Token, token_is, munched, token_of, an_iri, a_string}
 use Rattle.ntline.proofs.Bools.{second, differs}
 use Rattle.ntline.proofs.Digits.{digits_given, not-part}
 use Rattle.ntline.proofs.Resolving.{string-character, string-slash}

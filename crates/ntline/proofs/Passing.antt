@@ -1,15 +1,15 @@
 -- Bytes passed over: what a run of them does to a state. Assumes nothing.
 use mathlib.Core.Path.{◌≡◌, refl, sym, ap, subst, ◌∙◌}
-use mathlib.Core.Bool.{Bool, true, false, not, cond, ◌&&◌, ◌||◌, false≢true}
-use mathlib.Core.List.{List, [], ◌∷◌}
+use mathlib.Core.Bool.{Bool, true, false, not, ◌&&◌, ◌||◌, false≢true}
+use mathlib.Core.List.{List, ◌∷◌}
 use Prim.Native.Nat.{ℕ, zero, suc, ◌+◌, ◌-◌, ◌≤◌, ◌<◌}
 use native.Mathlib.Numerals.{add-one}
 use native.Mathlib.Omega.{arith}
 use native.Mathlib.Decide.{dec_lt}
-use lib.ListN.{length, get_or, drop}
+use lib.ListN.{length, get_or}
 use lib.Seq.{slice, slice-cons}
 use lib.Dec.{eqb, leb, ltb}
-use borrow.Author.Tests.{eq-eqb, ne_eqb, le-leb, ltb-true, leb-true, eqb-true, eqb-false, not-true}
+use borrow.Author.Tests.{ne_eqb, le-leb, ltb-true, leb-true, eqb-true, eqb-false, not-true}
 use Rattle.ground.specs.Lists.{all_below}
 use Rattle.ground.proofs.Below.{below_all}
 use Rattle.utf8.specs.declared.Character.TheVariants.{Whole}
@@ -20,9 +20,9 @@ use Rattle.utf8.proofs.Judged.{and_left, and_right, is_one, low-character}
 use Rattle.utf8.proofs.Texts.{chars-whole}
 use Rattle.ntline.specs.declared.lexing.State.{State}
 use Rattle.ntline.specs.declared.lexing.State.TheVariants.{Iri, Quoted}
-use Rattle.ntline.specs.Classes.{is_alpha_lem, is_digit_lem, is_alnum_lem, is_barred, is_iri_char_lem, is_string_char, is_base, is_name_start, is_name_char_lem, is_scheme_char_lem}
+use Rattle.ntline.specs.Classes.{is_alpha_lem, is_digit_lem, is_alnum_lem, is_barred, is_iri_char_lem, is_base, is_name_start, is_name_char_lem, is_scheme_char_lem}
 use Rattle.ntline.specs.Escapes.{part, fed, fed_by}
-use Rattle.ntline.specs.Lexing.{schemed, iri_goes, in_iri, quoted_goes, in_quoted, step, kind_of, munched}
+use Rattle.ntline.specs.Lexing.{schemed, iri_goes, in_iri, quoted_goes, in_quoted, step, munched}
 use Rattle.ntline.specs.Runs.{plain_byte, label_byte, Run, Still, RunTo, SchemeTo}
 use Rattle.ntline.proofs.Bools.{second, either}
 use Rattle.ntline.proofs.Munching.{munched-on, iri-none, quoted_none}

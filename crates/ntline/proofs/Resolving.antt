@@ -1,15 +1,15 @@
 -- A source of the grammar is resolved to the characters that it means. Assumes nothing.
-use mathlib.Core.Path.{◌≡◌, refl, sym, ap, ◌∙◌}
+use mathlib.Core.Path.{◌≡◌, refl, ap, ◌∙◌}
 use mathlib.Core.Bool.{Bool, true, false, cond}
-use mathlib.Core.List.{List, [], ◌∷◌, ◌++◌, append_assoc}
-use Prim.Native.Nat.{ℕ, ◌≤◌}
+use mathlib.Core.List.{List, ◌∷◌, ◌++◌}
+use Prim.Native.Nat.{ℕ}
 use native.Mathlib.Omega.{arith}
 use lib.Dec.{eqb}
 use Rattle.utf8.specs.Characters.{is_character_lem}
 use Rattle.utf8.proofs.Judged.{and_left}
 use Rattle.ntline.specs.Classes.{is_iri_char_lem, is_barred, is_string_char}
 use Rattle.ntline.specs.Grammar.{UCHAR, ECHAR, IriChars, StringChars}
-use Rattle.ntline.specs.Escapes.{part, fed, echar_of, opened_by, fed_by, resolved}
+use Rattle.ntline.specs.Escapes.{part, echar_of, opened_by, fed_by, resolved}
 use Rattle.ntline.proofs.Bools.{differs}
 use Rattle.ntline.proofs.Digits.{digits_given, not-part}
 

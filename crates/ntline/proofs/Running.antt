@@ -1,12 +1,11 @@
 -- What the states let through, the grammar has: escapes, and the terminals that end in a mark of their own. Assumes nothing.
-use mathlib.Core.Path.{◌≡◌, refl, sym, ap, subst, ◌∙◌}
-use mathlib.Core.Bool.{Bool, true, false, cond, ◌&&◌, ◌||◌, true≢false, false≢true}
-use mathlib.Core.List.{List, [], ◌∷◌, ◌++◌, append_assoc}
+use mathlib.Core.Path.{◌≡◌, refl, sym, ap, ◌∙◌}
+use mathlib.Core.Bool.{Bool, true, false, cond}
+use mathlib.Core.List.{List, [], ◌∷◌, ◌++◌}
 use Prim.Native.Nat.{ℕ, zero, suc, ◌+◌, ◌-◌, ◌*◌, ◌≤◌, ◌<◌}
 use native.Mathlib.Omega.{arith}
-use lib.ListN.{length, length-append}
-use lib.Dec.{eqb, leb, ltb}
-use borrow.Author.Tests.{eq-eqb, ne_eqb, eqb-true, eqb-false, le-leb, leb-true, lt-leb, leb-false}
+use lib.Dec.{eqb, leb}
+use borrow.Author.Tests.{ne_eqb, le-leb, leb-true, lt-leb, leb-false}
 use Rattle.utf8.specs.Characters.{is_character_lem}
 use Rattle.utf8.specs.Texts.{bad}
 use Rattle.ntline.specs.declared.escapes.Fed.{Fed}

@@ -1,24 +1,16 @@
 -- What the grammar has is read, and to what the grammar says that it means: every line that says something is heard so. Assumes nothing.
-use mathlib.Core.Path.{◌≡◌, refl, sym, ap, ◌∙◌}
-use mathlib.Core.Bool.{Bool, true, false, cond, ◌&&◌, ◌||◌, true≢false}
-use mathlib.Core.List.{List, [], ◌∷◌, ◌++◌, append_assoc, append-nil}
-use Prim.Native.Nat.{ℕ, suc, ◌+◌, ◌-◌}
-use native.Mathlib.Omega.{arith}
-use lib.ListN.{length, take, drop, length-append}
-use lib.Seq.{take-append_seam, take_at}
-use lib.Dec.{eqb, leb}
-use borrow.Author.Tests.{eq-eqb, ne_eqb, eqb-true}
-use Rattle.ntline.specs.declared.lexing.State.{State}
-use Rattle.ntline.specs.declared.lexing.State.TheVariants.{Dead, White, Label, Dots, Letters, Alnums}
-use Rattle.ntline.specs.Classes.{is_white_lem, is_alpha_lem, is_digit_lem, is_alnum_lem, is_base, is_name_start, is_name_char_lem}
+use mathlib.Core.Path.{◌≡◌, refl}
+use mathlib.Core.Bool.{true, false}
+use mathlib.Core.List.{List, [], ◌∷◌, ◌++◌}
+use Prim.Native.Nat.{ℕ}
+use lib.Dec.{eqb}
+use Rattle.ntline.specs.declared.lexing.State.TheVariants.{White, Label, Letters, Alnums}
+use Rattle.ntline.specs.Classes.{is_white_lem}
 use Rattle.ntline.specs.Grammar as grammar
-use Rattle.ntline.specs.Escapes.{resolved}
-use Rattle.ntline.specs.Lexing.{in_label, step, kind_of, Token, token_is, munched, token_of}
-use Rattle.ntline.specs.Lines.{is_nil, spaced, is_over, Source, source, typed_of, literal_of, source_of, is_dotted, Parsed, object_of, predicate_of, subject_of, line_of, up_to, inner, mark_of, meant_by, Heard, said_by}
-use Rattle.ntline.proofs.Resolving.{iri-resolved, string-resolved}
-use Rattle.ntline.proofs.Munching.{munched-on, iri-found, string-found}
-use Rattle.ntline.proofs.Words.{Stops, stops_end, stops-dead, space_found, label-found, tag_found, remark_found, dot-found, hats_found, label-dot, kind-dots}
-use Rattle.ntline.proofs.Spans.{source-iri, source-label, source-string, literal-tag, literal-hats, literal-bare, typed_iri}
+use Rattle.ntline.specs.Lexing.{step, token_is, munched, token_of}
+use Rattle.ntline.specs.Lines.{spaced, is_over, is_dotted}
+use Rattle.ntline.proofs.Munching.{iri-found, string-found}
+use Rattle.ntline.proofs.Words.{Stops, stops_end, stops-dead, space_found, label-found, tag_found, remark_found, dot-found, hats_found}
 
 -- ---- a terminal at the front, which no white space before it takes in
 pub record Front (xs : List ℕ) (kind : ℕ) (rest : List ℕ) : Type 0 where

@@ -1,16 +1,15 @@
 -- What is heard, the grammar has, and means so. Assumes nothing.
 use mathlib.Core.Path.{◌≡◌, refl, sym, ap, subst, ◌∙◌}
-use mathlib.Core.Bool.{Bool, true, false, cond, ◌&&◌, ◌||◌, true≢false, false≢true}
+use mathlib.Core.Bool.{Bool, true, false, cond, ◌&&◌, ◌||◌, false≢true}
 use mathlib.Core.List.{List, [], ◌∷◌, ◌++◌, append_assoc, append-nil}
 use Prim.Native.Nat.{ℕ, ◌≤◌}
 use native.Mathlib.Omega.{arith}
 use lib.Dec.{eqb, leb}
-use borrow.Author.Tests.{eq-eqb, ne_eqb, eqb-true, eqb-false, leb-true}
+use borrow.Author.Tests.{eqb-true, eqb-false, leb-true}
 use Rattle.utf8.proofs.Judged.{and_left, and_right}
 use Rattle.ntline.specs.Grammar as grammar
-use Rattle.ntline.specs.Lexing.{Token, token_is, token_of}
+use Rattle.ntline.specs.Lexing.{token_of}
 use Rattle.ntline.specs.Lines.{is_nil, spaced, is_over, Source, source, typed_of, literal_of, source_of, is_dotted, Parsed, bad, parsed, empty, object_of, predicate_of, subject_of, line_of, meant_by, Heard, wrong, heard, said_by}
-use Rattle.ntline.proofs.Bools.{second}
 use Rattle.ntline.proofs.Worded.{Standing, token_sound, is-space, is-dot, is-hats, is-remark, is-label, is-tag, is-iri, is-string}
 use Rattle.ntline.proofs.Spans.{source-iri, source-label, source-string, source-none, literal-tag, literal-hats, literal-bare, typed_iri, typed_none}
 use Rattle.ntline.proofs.Hearing.{meant_name, meant_blank, meant_literal, plain-mark, tag_mark, type-mark}

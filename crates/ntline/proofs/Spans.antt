@@ -1,20 +1,20 @@
 -- Terms and lines by their terminals: positions of the bytes for what is left of the line. Assumes nothing.
-use mathlib.Core.Path.{◌≡◌, refl, sym, ap, subst, ◌∙◌}
-use mathlib.Core.Bool.{Bool, true, false, cond, ◌&&◌, ◌||◌}
-use mathlib.Core.List.{List, [], ◌∷◌}
-use Prim.Native.Nat.{ℕ, ◌≤◌, ◌<◌}
+use mathlib.Core.Path.{◌≡◌, refl, sym, ap, ◌∙◌}
+use mathlib.Core.Bool.{Bool, true, false}
+use mathlib.Core.List.{List, []}
+use Prim.Native.Nat.{ℕ, ◌≤◌}
 use native.Mathlib.Omega.{arith}
 use lib.ListN.{length}
 use lib.Seq.{slice, slice_empty, length-slice}
-use lib.Dec.{eqb, leb}
-use borrow.Author.Tests.{eq-eqb, ne_eqb, eqb-true, eqb-false, le-leb, lt-leb}
+use lib.Dec.{eqb}
+use borrow.Author.Tests.{eq-eqb, ne_eqb, eqb-true, eqb-false}
 use Rattle.utf8.specs.declared.Character.{Character}
 use Rattle.utf8.specs.declared.Character.TheVariants.{Whole, Bad}
 use Rattle.utf8.specs.Octets.{character_in}
 use Rattle.utf8.specs.Texts.{chars_of, seen}
 use Rattle.utf8.proofs.Texts.{chars-nil, chars-whole, chars-bad}
 use Rattle.ntline.specs.declared.lines.Span.{Span}
-use Rattle.ntline.specs.Lexing.{Token, token_of}
+use Rattle.ntline.specs.Lexing.{token_of}
 use Rattle.ntline.specs.Lines.{is_nil, spaced, is_over, Source, source, typed_of, literal_of, source_of, is_dotted, span, SpanOf}
 use Rattle.ntline.specs.Inner.{TokenAt, SpacedAt}
 

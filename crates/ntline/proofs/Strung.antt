@@ -1,19 +1,19 @@
 -- What the states let through as a string, the grammar has as one. Assumes nothing.
 use mathlib.Core.Path.{◌≡◌, refl, sym, ap, subst, ◌∙◌}
-use mathlib.Core.Bool.{Bool, true, false, not, cond, ◌&&◌, ◌||◌, true≢false, false≢true}
+use mathlib.Core.Bool.{Bool, true, false, cond, true≢false}
 use mathlib.Core.List.{List, [], ◌∷◌, ◌++◌, append_assoc}
-use Prim.Native.Nat.{ℕ, zero, suc, ◌+◌, ◌≤◌, ◌<◌}
+use Prim.Native.Nat.{ℕ, zero, suc, ◌≤◌}
 use native.Mathlib.Omega.{arith}
 use lib.ListN.{length, length-append}
-use lib.Dec.{eqb, leb, ltb}
-use borrow.Author.Tests.{eq-eqb, ne_eqb, eqb-true, eqb-false}
+use lib.Dec.{eqb}
+use borrow.Author.Tests.{eqb-true}
 use Rattle.utf8.specs.Characters.{is_character_lem}
 use Rattle.utf8.specs.Texts.{bad}
 use Rattle.ntline.specs.declared.lexing.State.{State}
 use Rattle.ntline.specs.declared.lexing.State.TheVariants.{Dead, Quoted, QuotedEnd}
 use Rattle.ntline.specs.Classes.{is_string_char}
 use Rattle.ntline.specs.Grammar.{UCHAR, ECHAR, StringChars}
-use Rattle.ntline.specs.Escapes.{part, fed, echar_of, opened_by, fed_by}
+use Rattle.ntline.specs.Escapes.{part, echar_of, opened_by, fed_by}
 use Rattle.ntline.specs.Lexing.{quoted_goes, in_quoted, step, kind_of}
 use Rattle.ntline.proofs.Munching.{quoted_none, quoted_feeds}
 use Rattle.ntline.proofs.Running.{run, Closing, closing_dead, closing_nil, closing_on, Digits, digits_back}

@@ -1,6 +1,6 @@
 -- What the longest match finds is a terminal of the grammar. Assumes nothing.
 use mathlib.Core.Path.{◌≡◌, refl, sym, ap, subst, ◌∙◌}
-use mathlib.Core.Bool.{Bool, true, false, cond, ◌&&◌, ◌||◌, true≢false, false≢true}
+use mathlib.Core.Bool.{Bool, true, false}
 use mathlib.Core.List.{List, [], ◌∷◌, ◌++◌}
 use Prim.Native.Nat.{ℕ}
 use native.Mathlib.Omega.{arith}
@@ -11,11 +11,11 @@ use Rattle.ntline.specs.declared.lexing.State.{State}
 use Rattle.ntline.specs.declared.lexing.State.TheVariants.{Start, Dead, White, Dot, Hat, Hats, Remark, Under, Colon, Label, Dots, At, Letters, Minus, Alnums, Iri, Quoted}
 use Rattle.ntline.specs.Classes.{is_white_lem, is_alpha_lem, is_alnum_lem, is_name_char_lem, is_label_start_lem}
 use Rattle.ntline.specs.Grammar as grammar
-use Rattle.ntline.specs.Lexing.{begun, in_label, step, kind_of, Token, token_of}
-use Rattle.ntline.proofs.Ending.{Found, token_found}
+use Rattle.ntline.specs.Lexing.{begun, in_label, step, kind_of, token_of}
+use Rattle.ntline.proofs.Ending.{token_found}
 use Rattle.ntline.proofs.Running.{run, Closing, ends-closing, closing_dead, closing_nil, closing_on}
-use Rattle.ntline.proofs.Marked.{Iriref, iri-sound}
-use Rattle.ntline.proofs.Strung.{Quotation, string-sound}
+use Rattle.ntline.proofs.Marked.{iri-sound}
+use Rattle.ntline.proofs.Strung.{string-sound}
 use Rattle.ntline.proofs.Words.{white_goes, white_begins, label-from, dots_from, label-dot, dots_dot, label-begins, letters_goes, letters_begin, letters_minus, alnums_goes, alnums_minus, minus-goes, remark_goes}
 
 -- the kind at the end of a way of no characters

@@ -1,16 +1,15 @@
 -- The longest match of white space, labels, tags, comments and marks: what the grammar has is found whole where what follows does not
 -- go on with it. Assumes nothing.
-use mathlib.Core.Path.{◌≡◌, refl, sym, ap, ◌∙◌}
-use mathlib.Core.Bool.{Bool, true, false, cond, ◌&&◌, ◌||◌, false≢true}
+use mathlib.Core.Path.{◌≡◌, refl, ◌∙◌}
+use mathlib.Core.Bool.{true}
 use mathlib.Core.List.{List, [], ◌∷◌, ◌++◌}
 use Prim.Native.Nat.{ℕ}
-use lib.Dec.{eqb}
 use Rattle.utf8.specs.Characters.{is_character_lem}
 use Rattle.ntline.specs.declared.lexing.State.{State}
-use Rattle.ntline.specs.declared.lexing.State.TheVariants.{Start, Dead, White, Dot, Hat, Hats, Remark, Under, Colon, Label, Dots, At, Letters, Minus, Alnums}
+use Rattle.ntline.specs.declared.lexing.State.TheVariants.{Start, Dead, White, Remark, Colon, Label, Dots, At, Letters, Minus, Alnums}
 use Rattle.ntline.specs.Classes.{is_white_lem, is_alpha_lem, is_digit_lem, is_alnum_lem, is_base, is_name_start, is_name_char_lem, is_label_start_lem}
 use Rattle.ntline.specs.Grammar as grammar
-use Rattle.ntline.specs.Lexing.{begun, in_label, step, kind_of, Token, token_is, munched, token_of, a_space, a_dot, a_hats, a_remark, a_label, a_tag}
+use Rattle.ntline.specs.Lexing.{begun, in_label, step, kind_of, token_is, munched, token_of, a_space, a_dot, a_hats, a_remark, a_label, a_tag}
 use Rattle.ntline.proofs.Munching.{munched-dead, munched-on, munched-end, over-dot, over-hats}
 
 -- what follows a terminal does not go on with it

@@ -1,5 +1,5 @@
 -- Escapes, a character at a time: a character stands for itself, or is one more of an escape, which then gives its character.
-use Rattle.std.specs.Prelude.{Bool, cond, List, [], ◌∷◌, ℕ, ◌+◌, ◌-◌, ◌*◌, eqb, leb}
+use Rattle.std.specs.Prelude.{cond, List, [], ◌∷◌, ℕ, ◌+◌, ◌-◌, ◌*◌, eqb, leb}
 use Rattle.utf8.specs.Characters.{is_character_lem}
 use Rattle.utf8.specs.Texts.{bad}
 use Rattle.ntline.specs.declared.escapes.Fed.{Fed}

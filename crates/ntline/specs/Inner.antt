@@ -1,5 +1,5 @@
 -- What the parts of reading a line promise each other: positions of the bytes for what is left of the line.
-use Rattle.std.specs.Prelude.{◌≡◌, List, ℕ, ◌≤◌, length}
+use Rattle.std.specs.Prelude.{◌≡◌, List, ℕ, ◌≤◌}
 use Rattle.utf8.specs.Texts.{seen}
 use Rattle.ntline.specs.declared.lexing.State.{State}
 use Rattle.ntline.specs.declared.lines.Span.{Span}

@@ -6,7 +6,7 @@ use Rattle.ntline.specs.declared.lines.Line.{Line}
 use Rattle.ntline.specs.declared.lines.Line.TheVariants.{Bad, Empty, Triple}
 use Rattle.ntline.specs.Grammar.{Said, Sort, Term}
 use Rattle.ntline.specs.Escapes.{resolved}
-use Rattle.ntline.specs.Lexing.{Token, token_of, a_space, a_dot, a_hats, a_remark, a_label, a_tag, an_iri, a_string}
+use Rattle.ntline.specs.Lexing.{token_of, a_space, a_dot, a_hats, a_remark, a_label, a_tag, an_iri, a_string}
 
 abbrev pub is_nil : List ℕ → Bool
 is_nil [] = true

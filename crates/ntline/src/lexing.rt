@@ -14,7 +14,7 @@ use crate::runs::{label_run, letters_run, plain_run, scheme_run};
 use utf8::{see, wide};
 
 // Where in a terminal a line is read.
-#[derive(Drop)]
+#[derive(Clone, Copy)]
 pub enum State {
     Start,
     // No terminal goes on like this.

@@ -1,0 +1,10 @@
+-- The invariant: a run up to here.
+use Prim.Native.Nat.{◌-◌}
+use Rattle.ntline.specs.Runs.{label_byte, Run}
+use Rattle.ntline.proofs.runs.label_run.Given as goal
+
+abbrev pub invariant-loop-i : goal.invariant-loop-i
+invariant-loop-i l = Run label_byte l.b l.at l.end l.i
+
+abbrev pub decreases-loop-i : goal.decreases-loop-i
+decreases-loop-i l = l.end - l.i
