@@ -2,51 +2,59 @@
 // What a call of the system writes no contract can say, so these have none; the programs' stored output tests them.
 #![tactic(auto)]
 
-use libc::STDOUT_FILENO;
+use std::io;
 
-pub fn word(text: &[u8]) {
-    io::write_all(STDOUT_FILENO, text);
+pub fn word(rt: &impl Print, text: &[u8]) -> io::Result<()> {
+    rt.write_all(text)
 }
 
-pub fn number(n: u64) {
-    io::print_decimal(STDOUT_FILENO, n);
+pub fn number(rt: &impl Print, n: u64) -> io::Result<()> {
+    rt.print(n)
 }
 
 // One more number in the line.
-pub fn then(n: u64) {
-    io::write_all(STDOUT_FILENO, b" ");
-    io::print_decimal(STDOUT_FILENO, n);
+pub fn then(rt: &impl Print, n: u64) -> io::Result<()> {
+    rt.write_all(b" ")?;
+    rt.print(n)
 }
 
-pub fn end() {
-    io::write_all(STDOUT_FILENO, b"\n");
+pub fn end(rt: &impl Print) -> io::Result<()> {
+    rt.write_all(b"\n")
 }
 
-pub fn row(s: u16, p: u16, o: u16, a: u64) {
-    number(s as u64);
-    then(p as u64);
-    then(o as u64);
-    then(a);
-    end();
+pub fn row(rt: &impl Print, s: u16, p: u16, o: u16, a: u64) -> io::Result<()> {
+    number(rt, s as u64)?;
+    then(rt, p as u64)?;
+    then(rt, o as u64)?;
+    then(rt, a)?;
+    end(rt)
 }
 
 // The first count rows, as far as every lane has them.
-pub fn rows(subj: &[u16], pred: &[u16], obj: &[u16], ann: &[u64], count: usize) {
+pub fn rows(
+    rt: &impl Print,
+    subj: &[u16],
+    pred: &[u16],
+    obj: &[u16],
+    ann: &[u64],
+    count: usize,
+) -> io::Result<()> {
     let mut i = 0;
     while i < count {
         if subj.len() <= i {
-            return;
+            return Ok(());
         }
         if pred.len() <= i {
-            return;
+            return Ok(());
         }
         if obj.len() <= i {
-            return;
+            return Ok(());
         }
         if ann.len() <= i {
-            return;
+            return Ok(());
         }
-        row(subj[i], pred[i], obj[i], ann[i]);
+        row(rt, subj[i], pred[i], obj[i], ann[i])?;
         i += 1;
     }
+    Ok(())
 }
