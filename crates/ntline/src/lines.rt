@@ -20,7 +20,7 @@ pub const LITERAL: u8 = 2;
 pub const NO_TERM: u8 = 3;
 
 // A term in a line: its sort, its first terminal from `from` up to `to`, and the end of what a literal has behind its string.
-#[derive(Drop)]
+#[derive(Clone, Copy)]
 pub struct Span {
     pub sort: u8,
     pub from: usize,
