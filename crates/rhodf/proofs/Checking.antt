@@ -86,17 +86,20 @@ module _ (K : Algebra) (rows : List Row) where
       everywhere (λ x. everywhere (λ y. everywhere (λ z. is_obeyed K G (rule.where_equal x y z) (x ∷ y ∷ z ∷ []) (rule.gives x y z)) rows) rows) rows
 
   one-obeyed : (rule : OfOne) → obeys_one rule ≡ true → ObeyedByOne K G rule
-  one-obeyed rule e x hx = obeyed (rule.where_equal x) (x ∷ []) (rule.gives x) (holds-everywhere _ rows e x hx)
+  one-obeyed rule e x hx = obeyed (rule.where_equal x) (x ∷ []) (rule.gives x) (holds-everywhere (λ a. is_obeyed K G (rule.where_equal a) (a ∷ []) (rule.gives a)) rows e x hx)
 
   two_obeyed : (rule : OfTwo) → obeys_two rule ≡ true → ObeyedByTwo K G rule
   two_obeyed rule e x hx y hy =
       obeyed (rule.where_equal x y) (x ∷ y ∷ []) (rule.gives x y)
-      (holds-everywhere _ rows (holds-everywhere _ rows e x hx) y hy)
+      (holds-everywhere (λ b. is_obeyed K G (rule.where_equal x b) (x ∷ b ∷ []) (rule.gives x b)) rows
+      (holds-everywhere (λ a. everywhere (λ b. is_obeyed K G (rule.where_equal a b) (a ∷ b ∷ []) (rule.gives a b)) rows) rows e x hx) y hy)
 
   three-obeyed : (rule : OfThree) → obeys_three rule ≡ true → ObeyedByThree K G rule
   three-obeyed rule e x hx y hy z hz =
       obeyed (rule.where_equal x y z) (x ∷ y ∷ z ∷ []) (rule.gives x y z)
-      (holds-everywhere _ rows (holds-everywhere _ rows (holds-everywhere _ rows e x hx) y hy) z hz)
+      (holds-everywhere (λ c. is_obeyed K G (rule.where_equal x y c) (x ∷ y ∷ c ∷ []) (rule.gives x y c)) rows
+      (holds-everywhere (λ b. everywhere (λ c. is_obeyed K G (rule.where_equal x b c) (x ∷ b ∷ c ∷ []) (rule.gives x b c)) rows) rows
+      (holds-everywhere (λ a. everywhere (λ b. everywhere (λ c. is_obeyed K G (rule.where_equal a b c) (a ∷ b ∷ c ∷ []) (rule.gives a b c)) rows) rows) rows e x hx) y hy) z hz)
 
   abbrev rules_obeyed : List Bool
   rules_obeyed =

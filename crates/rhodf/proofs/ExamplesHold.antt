@@ -33,7 +33,7 @@ use Rattle.rhodf.specs.Examples.{
   DomReflexive,
   examples,
 }
-use Rattle.rhodf.proofs.DrawnClosure.{Conclusion, by, by_rule, by_line, is_drawn_by, closure_with, is_closed_by, closure_by}
+use Rattle.rhodf.proofs.DrawnClosure.{Conclusion, by, by_rule, by_line, closure_with, is_closed_by, closure_by}
 
 p1 : P1
 unfolding is_closed_by

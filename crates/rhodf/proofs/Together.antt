@@ -4,7 +4,7 @@ use mathlib.Core.List.{List}
 use mathlib.Core.Logic.{◌⊎◌, inl, inr}
 use Rattle.annotation.specs.Algebra.{Algebra, AtMost}
 use Rattle.table.specs.Rows.{Triple}
-use Rattle.rhodf.specs.Graph.{Graph, graph_of, meet_all}
+use Rattle.rhodf.specs.Graph.{Graph, meet_all}
 use Rattle.rhodf.specs.Rules.{Rules, Drawn, Together}
 use Rattle.rhodf.specs.Closure.{Closed}
 use Rattle.rhodf.proofs.Drawing.{KeepLegal}

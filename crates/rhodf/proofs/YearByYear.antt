@@ -1,9 +1,8 @@
 -- Year by year: what a test reads in a closure is what the plain rules draw from the lines that it reads in the table. So two tables whose lines
 -- agree have closures that agree. For every set of rules that keep terms legal and are decided, and every test that `Reads`. Assumes nothing.
 use mathlib.Core.Path.{◌≡◌, refl, sym, ap, ◌∙◌, fun_ext, transport}
-use mathlib.Core.Bool.{Bool, true, false, ◌&&◌, ◌||◌, and-eq-true_iff}
+use mathlib.Core.Bool.{Bool, true, false, ◌||◌, and-eq-true_iff}
 use mathlib.Core.List.{List, [], ◌∷◌}
-use mathlib.Core.Logic.{◌↔◌}
 use Prim.Native.Nat.{ℕ}
 use Rattle.ground.proofs.Bools.{same_test}
 use Rattle.annotation.specs.Algebra.{AtMost}
@@ -12,7 +11,7 @@ use Rattle.annotation.proofs.KindLaws.{laws}
 use Rattle.table.specs.Rows.{Triple, Row}
 use Rattle.table.specs.Sound.{SoundRows}
 use Rattle.rhodf.specs.Graph.{Graph, graph_of, Valued, meet_all}
-use Rattle.rhodf.specs.Rules.{Rules, Drawn}
+use Rattle.rhodf.specs.Rules.{Rules}
 use Rattle.rhodf.specs.Closure.{ClosureOf}
 use Rattle.rhodf.specs.Plain.{DrawnFrom, line, drawn, AllDrawnFrom, none, and, Reads, LinesOf, ExactlyDrawn, Agree}
 use Rattle.rhodf.proofs.Graphs.{meet_all-value}

@@ -8,7 +8,7 @@ use native.Mathlib.Omega.{arith}
 use lib.Dec.{leb}
 use Rattle.annotation.specs.Kinds.{algebra}
 use Rattle.annotation.proofs.KindLaws.{laws}
-use Rattle.table.specs.Rows.{Triple, Row, add_row}
+use Rattle.table.specs.Rows.{Row, add_row}
 use Rattle.table.specs.Sound.{LegalRow, SoundRows}
 use Rattle.table.proofs.Values.{triple_of, legal-small, all_legal_small}
 use Rattle.table.proofs.Putting.{sound-add}
