@@ -1,6 +1,6 @@
 # `make help` lists what can be made.
 .PHONY: run test help install clean host fitting bench soak fuzz peers
-# Two rt over one tree spoil each other's target/.
+# Checks in one tree wait for one another.
 .NOTPARALLEL:
 
 # Says what is missing before anything is begun: $(call needs,COMMAND,WHAT FOR)
@@ -44,11 +44,13 @@ install: target/staticlib/libtrackvesper.a fitting
 clean:
 	rm -rf target
 
-# A static library is proved once, and again only where a crate has changed.
-target/staticlib/lib%.a: crates.txt $(shell find crates -name '*.rt' -o -name '*.antt')
+# The static library is proved once, and again only where a crate has changed.
+target/staticlib/lib%.a: crates.txt $(shell find crates -name out -prune -o \( -name '*.rt' -o -name '*.antt' \) -print)
 	$(call needs,rt,Rattle's toolchain proves and compiles the crates)
-	@tools/prove $*
-	rt staticlib $* > target/log/staticlib.log 2>&1 || { cat target/log/staticlib.log; exit 1; }
+	@tools/prove $*_c
+	(cd crates/$*_c && rt lib) > target/log/staticlib.log 2>&1 || { cat target/log/staticlib.log; exit 1; }
+	mkdir -p target/staticlib
+	cp crates/$*_c/out/lib$*_c.a $@
 
 # The hosts over the exported calls, in C and in C++.
 host: target/staticlib/libtrackvesper.a
