@@ -1,20 +1,20 @@
 -- What is laid down from a source is the text of what it means. Assumes nothing.
 use mathlib.Core.Path.{◌≡◌, refl, sym, ap, ◌∙◌}
-use mathlib.Core.Bool.{Bool, true, false, cond, true≢false}
+use mathlib.Core.Bool.{Bool, true, false, cond}
 use mathlib.Core.List.{List, [], ◌∷◌, ◌++◌, append_assoc}
-use Prim.Native.Nat.{ℕ, ◌≤◌}
+use Prim.Native.Nat.{ℕ}
 use native.Mathlib.Omega.{arith}
 use lib.Dec.{eqb}
 use borrow.Author.Tests.{ne_eqb}
 use Rattle.utf8.specs.Characters.{is_character_lem, char_bytes, text_bytes}
 use Rattle.ntline.specs.Classes.{is_white_lem, is_iri_char_lem, is_barred, is_string_char}
 use Rattle.ntline.specs.Grammar.{UCHAR, ECHAR, IriChars, StringChars}
-use Rattle.ntline.specs.Escapes.{part, fed, echar_of, opened_by, fed_by}
+use Rattle.ntline.specs.Escapes.{part, echar_of, opened_by, fed_by}
 use Rattle.ntline.proofs.Bools.{differs}
 use Rattle.ntline.proofs.Digits.{digits_given, not-part}
 use Rattle.ntline.proofs.Resolving.{iri-character, string-slash, string-character}
 use Rattle.nttext.specs.Texts.{canonical, canonical_bytes}
-use Rattle.nttext.specs.Laying.{unit_bytes, laid}
+use Rattle.nttext.specs.Laying.{laid}
 
 module _ (quoted : Bool) where
   gives : ℕ → List ℕ → List ℕ

@@ -1,19 +1,19 @@
 -- Texts that are plain bytes are legal: the lexer's states go through them. Assumes nothing.
 use mathlib.Core.Path.{◌≡◌, refl, ap, ◌∙◌}
 use mathlib.Core.Bool.{true, false}
-use mathlib.Core.List.{List, [], ◌∷◌}
+use mathlib.Core.List.{List}
 use Prim.Native.Nat.{ℕ, ◌+◌, ◌-◌, ◌≤◌, ◌<◌}
 use native.Mathlib.Omega.{arith}
 use lib.Dec.{eqb}
 use lib.ListN.{length, get_or}
 use lib.Seq.{slice}
 use borrow.Author.Tests.{ne_eqb}
-use Rattle.utf8.specs.Texts.{chars_of, seen}
+use Rattle.utf8.specs.Texts.{seen}
 use Rattle.ntline.specs.declared.lexing.State.{State}
-use Rattle.ntline.specs.declared.lexing.State.TheVariants.{Colon, Label, Iri, IriEnd}
+use Rattle.ntline.specs.declared.lexing.State.TheVariants.{Colon, Label, Iri}
 use Rattle.ntline.specs.Classes.{is_alpha_lem, is_digit_lem, is_base, is_name_start, is_name_char_lem, is_label_start_lem}
 use Rattle.ntline.specs.Lexing.{in_label, step, kind_of}
-use Rattle.ntline.specs.Runs.{plain_byte, label_byte, Run, Still, RunTo, SchemeTo}
+use Rattle.ntline.specs.Runs.{plain_byte, label_byte, Run, Still, SchemeTo}
 use Rattle.ntline.proofs.Passing.{low-seen, walk_to, none_of, alpha_low, label-low, label-name, iri-run}
 use Rattle.ntline.proofs.Tokens.{letter-begins, colon-goes, iri-closes, kind-iri_end}
 use Rattle.nttext.specs.Texts.{is_legal_text}

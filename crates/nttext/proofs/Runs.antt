@@ -1,6 +1,6 @@
 -- What a source lays, part by part: runs of plain bytes lay themselves, and so does what stands between them. Assumes nothing.
 use mathlib.Core.Path.{◌≡◌, refl, sym, ap, subst, ◌∙◌}
-use mathlib.Core.Bool.{Bool, true, false, ◌&&◌, false≢true}
+use mathlib.Core.Bool.{Bool, true, false, ◌&&◌}
 use mathlib.Core.List.{List, [], ◌∷◌, ◌++◌, append_assoc}
 use Prim.Native.Nat.{ℕ, suc, ◌+◌, ◌≤◌, ◌<◌}
 use native.Mathlib.Numerals.{add-one}
@@ -8,7 +8,7 @@ use native.Mathlib.Omega.{arith}
 use lib.Dec.{eqb, ltb}
 use lib.ListN.{length, get_or}
 use lib.Seq.{slice, slice_empty, slice-cons}
-use borrow.Author.Tests.{ne_eqb, eqb-true, eqb-false, ltb-false}
+use borrow.Author.Tests.{ne_eqb, eqb-false, ltb-false}
 use Rattle.utf8.specs.Texts.{chars_of, seen, AllCharacters}
 use Rattle.utf8.proofs.Agree.{bytes_one}
 use Rattle.utf8.proofs.Judged.{low-character}

@@ -1,5 +1,5 @@
 -- The text of a term as it is laid down from its source, a character at a time.
-use Rattle.std.specs.Prelude.{Bool, true, false, cond, List, [], ◌∷◌, ◌++◌, ℕ, ◌-◌, eqb, drop}
+use Rattle.std.specs.Prelude.{Bool, true, false, cond, List, [], ◌∷◌, ◌++◌, ℕ, eqb, drop}
 use Rattle.utf8.specs.Characters.{char_bytes}
 use Rattle.ntline.specs.Classes.{is_white_lem}
 use Rattle.ntline.specs.Escapes.{part, fed_by, kept}
