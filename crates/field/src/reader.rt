@@ -5,7 +5,7 @@ ghost use Rattle.field.specs.Fields.{field_at_lem};
 
 use crate::{Field, field_at};
 
-#[derive(Drop)]
+#[derive(Clone, Copy)]
 pub struct Reader<'a> {
     pub src: &'a [u8],
     pub at: usize,
