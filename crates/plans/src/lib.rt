@@ -21,7 +21,7 @@ pub const BEHIND: u8 = 3;
 
 pub const ALONE: u8 = 4;
 
-#[derive(Drop)]
+#[derive(Clone, Copy)]
 pub struct Plan {
     pub shape: u8,
     pub q: u16,
