@@ -1,8 +1,9 @@
 -- A names list and its hashes as they are lent: where a call begins and where it ends.
-use Rattle.std.specs.Prelude.{ℕ}
+use Rattle.std.specs.Prelude.{List, ℕ}
+use Rattle.std.specs.Borrow.{Bor}
 use denote.Triple.Both.{Both}
 use Rattle.names.specs.Names.{lanes_of, entries_of}
-use Rattle.names.specs.Lent.{Lane, names_lent, names_before, names_after}
+use Rattle.names.specs.Lent.{Lane, names_lent}
 use Rattle.names.specs.Hashed.{Hashed}
 use Rattle.ntnumber.specs.declared.Numbered.{Numbered}
 use Rattle.ntnumber.specs.Numbering.{LyingAs, HashEntered}
@@ -15,9 +16,9 @@ abbrev pub HashedAfter : Both Lane Lane → Both Lane Lane → Both Lane Lane �
 HashedAfter terms ends text names heads next = HashedLent terms.exit ends.exit text.exit names heads.exit next.exit
 
 -- a text is entered where it lies
-abbrev pub LyingEntered : Both Lane Lane → Both Lane Lane → Both Lane Lane → ℕ → ℕ → ℕ → Numbered → Type 0
+abbrev pub LyingEntered : Both Lane Lane → Both Lane Lane → Both (Bor (List ℕ)) (Bor (List ℕ)) → ℕ → ℕ → ℕ → Numbered → Type 0
 LyingEntered terms ends text names n size r =
-    LyingAs (names_before terms ends text) (lanes_of terms.exit.now ends.exit.now text.entry.now) names n size r
+    LyingAs (lanes_of terms.entry.now ends.entry.now text.entry.now) (lanes_of terms.exit.now ends.exit.now text.entry.now) names n size r
 
 abbrev pub HashFollows : Both Lane Lane → Both Lane Lane → ℕ → ℕ → Numbered → Type 0
 HashFollows heads next names h r = HashEntered heads.entry.now next.entry.now heads.exit.now next.exit.now names h r
