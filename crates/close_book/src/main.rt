@@ -7,19 +7,20 @@ ghost use Rattle.table.specs.Lent.{before};
 ghost use Rattle.printing.specs.Laid.{Fronted};
 ghost use Rattle.close_book.specs.Listed.{Listed, listing_room};
 
-use libc::{STDIN_FILENO, STDOUT_FILENO};
 use printing::closed::put_closed;
+use printing::input::read_full;
 use printing::lines::put_refused;
+use std::io;
 
-fn main() {
+fn main(rt: HostRuntime) -> io::Result<()> {
     let mut subj = [0u16; 1024];
     let mut pred = [0u16; 1024];
     let mut obj = [0u16; 1024];
     let mut ann = [0u64; 1024];
     let mut text = [0u8; 40960];
     // One byte more than the longest book, so that a longer one is seen to be.
-    let mut bytes = io::large_buffer();
-    let n = io::read_full(STDIN_FILENO, &mut bytes);
+    let mut bytes = [0u8; 65536];
+    let n = read_full(&mut rt.stdin(), &mut bytes)?;
     let size = close_listed(
         &bytes[..n],
         &mut subj,
@@ -28,7 +29,7 @@ fn main() {
         &mut ann,
         &mut text,
     );
-    io::write_all(STDOUT_FILENO, &text[..size]);
+    rt.write_all(&text[..size])
 }
 
 // Lays what the book prints at the front of `out`, and answers how long it is.

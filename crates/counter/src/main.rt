@@ -2,20 +2,22 @@
 // For each question `asked NUMBER PLACE COUNT LOOKS` and a line for each answer; `refused NUMBER PLACE` ends it.
 #![tactic(auto)]
 
-ghost use Rattle.std.specs.Prelude.{◌≡◌, true, ◌+◌, ◌≤◌, length};
-ghost use Rattle.io.specs.Counts.{IsPrefixLen};
+ghost use Rattle.std.specs.Prelude.{◌≡◌, true, ◌+◌, ◌≤◌, length, IfOk};
 ghost use Rattle.ruleset.specs.RuleSet.{is_rule_set};
 ghost use Rattle.table.specs.Lent.{lent};
+ghost use Rattle.printing.specs.Laid.{IsPrefixLen};
 ghost use Rattle.counter.specs.Turns.{Ready, asked_room};
-
-use libc::{STDIN_FILENO, STDOUT_FILENO};
 
 mod next;
 mod turns;
 
+use printing::input::read_full;
+use std::io;
+use std::io::Read;
+
 const ALL_LOOKS: u32 = 4294967295;
 
-fn main() {
+fn main(rt: HostRuntime) -> io::Result<()> {
     let mut subj = [0u16; 1024];
     let mut pred = [0u16; 1024];
     let mut obj = [0u16; 1024];
@@ -23,7 +25,8 @@ fn main() {
     let mut text = [0u8; 67712];
     // A length, and as many bytes as it can say.
     let mut bytes = [0u8; 65537];
-    let size = read_next(&mut bytes);
+    let mut input = rt.stdin();
+    let size = read_next(&mut input, &mut bytes)?;
     let book = turns::open_book(
         &bytes[..size],
         &mut subj,
@@ -32,40 +35,42 @@ fn main() {
         &mut ann,
         &mut text,
     );
-    io::write_all(STDOUT_FILENO, &text[..book.size]);
+    rt.write_all(&text[..book.size])?;
     if book.over {
-        return;
+        return Ok(());
     }
     answer_all(
-        book.kind, book.rules, &mut subj, &mut pred, &mut obj, &mut ann, book.rows, &mut bytes,
-        &mut text,
-    );
+        &rt, &mut input, book.kind, book.rules, &mut subj, &mut pred, &mut obj, &mut ann,
+        book.rows, &mut bytes, &mut text,
+    )
 }
 
 // Reads a length and as many bytes as it says, or what there is, to the front of `bytes`; how many came.
-fn read_next(bytes: &mut [u8]) -> usize
+fn read_next<R: Read>(input: &mut R, bytes: &mut [u8]) -> io::Result<usize>
     requires { 65537 ≤ length bytes.old }
-    ensures { IsPrefixLen result bytes.new }
+    ensures { IfOk result (λ n. IsPrefixLen n bytes.new) }
 {
-    let head = read_part(bytes, 0, 2);
+    let head = read_part(input, bytes, 0, 2)?;
     if head < 2 {
-        return head;
+        return Ok(head);
     }
     let size = next::length_of(bytes[0], bytes[1]);
-    let rest = read_part(bytes, 2, 2 + size);
-    2 + rest
+    let rest = read_part(input, bytes, 2, 2 + size)?;
+    Ok(2 + rest)
 }
 
 // Reads into the bytes from `from` up to `to`, until they are full or the input ends; how many came.
-fn read_part(bytes: &mut [u8], from: usize, to: usize) -> usize
+fn read_part<R: Read>(input: &mut R, bytes: &mut [u8], from: usize, to: usize) -> io::Result<usize>
     requires { (from ≤ to) × (to ≤ length bytes.old) }
-    ensures { from + result ≤ to }
+    ensures { IfOk result (λ n. from + n ≤ to) }
 {
-    io::read_full(STDIN_FILENO, &mut bytes[from..to])
+    read_full(input, &mut bytes[from..to])
 }
 
 // A proved loop has to end, and nothing says that the input does: the turns are counted down from a number that no run uses up.
-fn answer_all(
+fn answer_all<R: Read>(
+    rt: &impl Print,
+    input: &mut R,
     kind: u8,
     rules: u8,
     subj: &mut [u16],
@@ -75,7 +80,7 @@ fn answer_all(
     count: usize,
     bytes: &mut [u8],
     text: &mut [u8],
-)
+) -> io::Result<()>
     requires { Ready kind (lent subj pred obj ann) count × (65537 ≤ length bytes.old) × (asked_room ≤ length text.old) × (is_rule_set rules ≡ true) }
 {
     let mut terms = [0u16; 4096];
@@ -83,7 +88,7 @@ fn answer_all(
     let mut rows = count;
     let mut turns = u64::MAX;
     while turns > 0 {
-        let size = read_next(bytes);
+        let size = read_next(input, bytes)?;
         let turn = turns::answer(
             kind,
             rules,
@@ -98,11 +103,12 @@ fn answer_all(
             &mut anns,
             text,
         );
-        io::write_all(STDOUT_FILENO, &text[..turn.size]);
+        rt.write_all(&text[..turn.size])?;
         if turn.over {
-            return;
+            return Ok(());
         }
         rows = turn.rows;
         turns -= 1;
     }
+    Ok(())
 }

@@ -1,19 +1,15 @@
--- The fewest digits that hold a number are its decimal text, and how long that is. Assumes nothing.
-use mathlib.Core.Path.{◌≡◌, refl, sym, ap, ◌∙◌}
-use mathlib.Core.Bool.{true, false}
-use mathlib.Core.List.{List, [], ◌∷◌, ◌++◌}
-use Prim.Native.Nat.{ℕ, zero, suc, ◌+◌, ◌-◌, ◌*◌, ◌/◌, ◌%◌, ◌^◌, ◌≤◌, ◌<◌}
-use native.Mathlib.Nat.{pow-suc, one-le-pow, pow-le-pow_right}
+-- std's decimal text of a number is the one of Text, and how long that is. Assumes nothing.
+use mathlib.Core.Path.{◌≡◌, refl, sym, ◌∙◌}
+use mathlib.Core.List.{[], ◌∷◌, ◌++◌}
+use Prim.Native.Nat.{ℕ, zero, suc, ◌+◌, ◌*◌, ◌/◌, ◌%◌, ◌^◌, ◌≤◌, ◌<◌}
+use native.Mathlib.Nat.{pow-suc}
 use native.Mathlib.Decide.{dec_lt}
 use native.Mathlib.Omega.{arith}
 use lib.ListN.{length, length-append}
-use lib.Dec.{ltb}
 use borrow.Author.Tests.{lt-ltb, le-ltb}
-use Rattle.io.specs.Digits.{last_digits, hex_digit_ascii, IsDigitCount}
-use Rattle.printing.specs.Text.{unless_digit, decimal_in, decimal}
-
-glyph_digit : (n : ℕ) → hex_digit_ascii (n % 10) ≡ 48 + n % 10
-glyph_digit n = let d : n % 10 < 10 = omega arith in rw (lt-ltb (n % 10) 10 d) refl
+use Rattle.std.specs.Fmt.{decimal as Fmt-decimal}
+use Rattle.std.proofs.lemmas.Fmt.{AppendsLastDigit, decimal_from_appends, length-decimal-le}
+use Rattle.printing.specs.Text.{decimal_in, decimal}
 
 no_places : (n : ℕ) → decimal_in zero n ≡ []
 unfolding decimal_in
@@ -27,36 +23,16 @@ more-digits : (places n : ℕ) → 10 ≤ n → decimal_in (suc places) n ≡ de
 unfolding decimal_in
 more-digits places n h = rw (le-ltb n 10 h) refl
 
-fewest_is : (k places n : ℕ) → k ≤ places → IsDigitCount 10 1 n k → last_digits 10 k n ≡ decimal_in places n
-fewest_is zero places n h f = absurd (omega (arith, f.0))
-fewest_is (suc k) zero n h f = absurd (omega arith)
-fewest_is (suc zero) (suc places) n h f =
-    let s : n < 10 = f.1 in
-    ap (λ (d : ℕ). d ∷ []) (glyph_digit n) ∙ sym (one-digit places n s)
-fewest_is (suc (suc k)) (suc places) n h f =
-    let d₂ : suc (suc k) - 1 ≡ suc k = omega arith in
-    let d₁ : suc k - 1 ≡ k = omega arith in
-    let low : 10 ^ suc k ≤ n = rw d₂ at (f.2 (omega arith)) in
-    let up : n < 10 ^ suc (suc k) = f.1 in
-    let e2 : 10 ^ suc (suc k) ≡ 10 ^ suc k * 10 = pow-suc 10 (suc k) in
-    let e1 : 10 ^ suc k ≡ 10 ^ k * 10 = pow-suc 10 k in
-    let pos : 1 ≤ 10 ^ k = one-le-pow k 10 (omega arith) in
-    let shorter : IsDigitCount 10 1 (n / 10) (suc k) = (omega arith, omega arith, λ q. rw d₁ (omega arith)) in
-    rw (fewest_is (suc k) places (n / 10) (omega arith) shorter, glyph_digit n) (sym (more-digits places n (omega arith)))
+-- std's digits of a number of 64 bits are the same
+last-digits : AppendsLastDigit decimal_in
+last-digits = record {
+  one = λ k n h. let e : n % 10 ≡ n = omega arith in one-digit k n h ∙ rw e refl;
+  more = more-digits;
+}
 
-pub decimal-is : (k n : ℕ) → k ≤ 20 → IsDigitCount 10 1 n k → last_digits 10 k n ≡ decimal n
+pub decimal-is : (n : ℕ) → n < 18446744073709551616 → Fmt-decimal n ≡ decimal n
 unfolding decimal
-decimal-is k n h f = fewest_is k 20 n h f
-
-pub at_most_twenty : (k n : ℕ) → n < 18446744073709551616 → IsDigitCount 10 1 n k → k ≤ 20
-at_most_twenty k n small f = go (dec_lt 20 k)
-  where
-    go : Dec (20 < k) → k ≤ 20
-    go (no h) = omega arith
-    go (yes h) =
-        let low : 10 ^ (k - 1) ≤ n = f.2 (omega arith) in
-        let up : 10 ^ 20 ≤ 10 ^ (k - 1) = pow-le-pow_right {n = 10} (omega arith) {i = 20} {j = k - 1} (omega arith) in
-        absurd (omega arith)
+decimal-is n small = sym (decimal_from_appends decimal_in last-digits 20 n small (length-decimal-le 20 n (omega arith) (omega arith) small))
 
 -- ---- how long a text is
 

@@ -13,11 +13,11 @@ use Rattle.ground.proofs.Tab.{tab-length}
 use Rattle.names.proofs.Entries.{tab-snoc}
 use Rattle.field.specs.Numbers.{written}
 use Rattle.field.proofs.Writing.{length-written, written_one, written_on}
-use Rattle.io.specs.Digits.{last_digits, IsDigitCount}
+use Rattle.std.specs.Fmt.{decimal as Fmt-decimal}
 use Rattle.table.specs.Rows.{Row}
 use Rattle.printing.specs.Text.{bytes_of, decimal, behind_blank, line_feed, line, refused_line, closed_line, row_line, row_lines, closed_listing, asked_line, numbers_line, answer_line}
 use Rattle.printing.specs.Laid.{Fits, Laid, LaidWithin, Fronted}
-use Rattle.printing.proofs.Digits.{at_most_twenty, decimal-is, decimal-long, term-long}
+use Rattle.printing.proofs.Digits.{decimal-is, decimal-long, term-long}
 
 -- ---- one text
 
@@ -61,18 +61,27 @@ laid-front Text out out' text size h t p =
       rest_stays = rw (bytes, drop_at text (drop (length text) out) size (sym e), e) refl;
     }
 
--- the digits of a number of 64 bits
-module _ (word : List ℕ) (k n : ℕ) (small : n < 18446744073709551616) (f : IsDigitCount 10 1 n k) (t : take k word ≡ last_digits 10 k n) (l : k ≡ length (take k word)) where
-  same_digits : take k word ≡ decimal n
-  same_digits = t ∙ decimal-is k n (at_most_twenty k n small f) f
+-- the digits of a number of 64 bits, at the end of 20 bytes
+module _ (word : List ℕ) (start n : ℕ) (small : n < 18446744073709551616) (s : start + length (Fmt-decimal n) ≡ 20) (t : drop start word ≡ Fmt-decimal n ++ []) where
+  abbrev digits : List ℕ
+  digits = take (20 - start) (drop start word)
 
-  pub decimal-size : k ≡ length (decimal n)
-  decimal-size = l ∙ ap length same_digits
+  from_start : drop start word ≡ decimal n
+  from_start = t ∙ append-nil (Fmt-decimal n) ∙ decimal-is n small
 
-  pub laid-decimal : (b c : List ℕ) (at : ℕ) → c ≡ paste b at (take k word) k → Laid b c at (at + k) (decimal n)
+  pub decimal-size : 20 - start ≡ length (decimal n)
+  decimal-size = let e = ap length (decimal-is n small) in omega (arith, s, e)
+
+  same_digits : digits ≡ decimal n
+  same_digits = rw from_start (take_all (20 - start) (decimal n) (omega (arith, decimal-size)))
+
+  pub digits-long : length digits ≡ 20 - start
+  digits-long = ap length same_digits ∙ sym decimal-size
+
+  pub laid-decimal : (b c : List ℕ) (at : ℕ) → c ≡ paste b at digits (20 - start) → Laid b c at (at + (20 - start)) (decimal n)
   laid-decimal b c at e =
-      let twice : take k (take k word) ≡ take k word = take_all k (take k word) (omega (arith, l)) in
-      laid_word b c (take k word) (decimal n) at k e (twice ∙ same_digits) (sym decimal-size)
+      let twice : take (20 - start) digits ≡ digits = take_all (20 - start) digits (omega (arith, digits-long)) in
+      laid_word b c digits (decimal n) at (20 - start) e (twice ∙ same_digits) (sym decimal-size)
 
 -- ---- two texts, and texts one after another
 

@@ -1,9 +1,12 @@
 -- A text in lent bytes.
 use Rattle.std.specs.Prelude.{◌≡◌, List, ◌++◌, ℕ, ◌+◌, ◌*◌, ◌≤◌, length, take, drop}
 use Rattle.ground.specs.Lists.{tab, each}
-use Rattle.io.specs.Counts.{IsPrefixLen}
 use Rattle.field.specs.Numbers.{written}
 use Rattle.printing.specs.Text.{asked_line, answer_line}
+
+-- so many are no more than there are, and as many as the first so many
+abbrev pub IsPrefixLen : ℕ → List ℕ → Type 0
+IsPrefixLen n xs = (n ≤ length xs) × (n ≡ length (take n xs))
 
 -- the bytes from `at` on hold the text
 abbrev pub Fits : List ℕ → ℕ → List ℕ → Type 0

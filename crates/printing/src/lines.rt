@@ -13,8 +13,9 @@ pub fn put_decimal(out: &mut [u8], at: usize, n: u64) -> usize
     ensures { Laid out.old out.new at result (decimal n) }
 {
     let mut text = [0u8; 20];
-    let size = io::decimal(n, &mut text);
-    names::texts::put(out, at, &text[..size], size);
+    let start = itoa::write_digits(n, &mut text, 20);
+    let size = 20 - start;
+    names::texts::put(out, at, &text[start..], size);
     at + size
 }
 
