@@ -13,7 +13,7 @@ use Rattle.table.proofs.Ordering.{Tri, less, same, more, tri}
 use Rattle.termset.specs.Termset.{holds, With}
 use Rattle.termset.proofs.Holding.{among_self, among_trans}
 use Rattle.walks.specs.Rising.{Either}
-use Rattle.rounds.specs.Due.{Still, Away, Idle, MeetsNotOne, BlockAway, Marked, Leads, NextDue, NextOf, LastDue, Sought, Spread}
+use Rattle.rounds.specs.Due.{Still, Away, MeetsNotOne, BlockAway, Marked, Leads, NextDue, NextOf, LastDue, Sought, Spread}
 
 pub marked : {changed other third : Bool} {x y d : ℕ} {due due₁ due₂ due₃ rose rose₁ rose₂ rose₃ : List ℕ}
     → changed ≡ true → With changed x due due₁ → With other y due₁ due₂ → With third d due₂ due₃

@@ -1,7 +1,7 @@
 -- A row's plans are sure, a table where nothing waits is closed, and rounds come to an end: for every set of rules that plans drive
 -- and that stay obeyed where nothing they meet rises.
 -- Assumes nothing.
-use mathlib.Core.Path.{◌≡◌, refl, sym, subst, subst₂, ◌∙◌}
+use mathlib.Core.Path.{◌≡◌, refl, sym, subst, ◌∙◌}
 use mathlib.Core.Bool.{Bool, true, false, true≢false}
 use mathlib.Core.List.{List}
 use mathlib.Core.Logic.{◌⊎◌, inl, inr, ⊎_elim}
@@ -22,7 +22,7 @@ use Rattle.rhodf.specs.Graph.{graph_of}
 use Rattle.rhodf.specs.Rules.{Rules}
 use Rattle.rhodf.specs.Closure.{Closed}
 use Rattle.rhodf.proofs.Growing.{rows-valued}
-use Rattle.termset.specs.Termset.{holds, words, Among, Without}
+use Rattle.termset.specs.Termset.{holds, words, Without}
 use Rattle.termset.proofs.Holding.{not-among, holds-all}
 use Rattle.termset.proofs.Counting.{members, members_most, members_fall}
 use Rattle.plans.specs.declared.Plan.{Plan}

@@ -1,0 +1,12 @@
+-- The invariant: what is promised, of the rows passed.
+use Prim.Native.Nat.{◌-◌}
+use Rattle.rounds.specs.Due.{NextOf}
+use Rattle.rounds.proofs.next_of.Given as goal
+
+abbrev pub invariant-loop-i : goal.invariant-loop-i
+invariant-loop-i l =
+    NextOf l.subj l.pred l.obj l.from l.one l.i
+
+abbrev pub decreases-loop-i : goal.decreases-loop-i
+decreases-loop-i l =
+    l.count - l.i
