@@ -72,7 +72,7 @@ class Turn:
         n = norm(old)
         if n in ('args', 'requires', 'ranges', 'type-inv'):
             return old
-        for m in (n, re.sub(r'-lem$', '', n)):
+        for m in (n, re.sub(r'-lem(-2)?$', '', n)):
             if m in self.known:
                 return 'type_inv.' + self.known[m]
             if m in self.steps:

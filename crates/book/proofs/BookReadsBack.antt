@@ -1,8 +1,8 @@
 -- "A table written as a book reads back, given the room, to the same rows"; and a book's fields may stand in any order. Assumes nothing.
 use mathlib.Core.Path.{◌≡◌, refl, sym, ap, ◌∙◌}
 use mathlib.Core.Bool.{Bool, true, false, cond}
-use mathlib.Core.List.{List, [], ◌∷◌, ◌++◌}
-use Prim.Native.Nat.{ℕ, ◌+◌, ◌*◌, ◌≤◌, ◌<◌}
+use mathlib.Core.List.{List, [], ◌++◌}
+use Prim.Native.Nat.{ℕ, ◌≤◌, ◌<◌}
 use native.Mathlib.Omega.{arith}
 use lib.ListN.{length, take, drop, length-append}
 use lib.Seq.{take_at}
@@ -13,7 +13,7 @@ use Rattle.term.specs.declared.refusal.Verdict.{Verdict}
 use Rattle.term.proofs.Firsts.{first_passes, first-none}
 use Rattle.ruleset.specs.RuleSet.{is_rule_set}
 use Rattle.annotation.specs.Kinds.{algebra, is_kind}
-use Rattle.table.specs.Rows.{Row, Lanes, lanes, row_at, rows_of, add_all, filled, zeroed}
+use Rattle.table.specs.Rows.{Row, Lanes, row_at, rows_of, add_all, filled}
 use Rattle.table.specs.Checks.{is_unfit}
 use Rattle.table.specs.Sound.{AllLegal, SoundRows, Sound}
 use Rattle.table.proofs.Soundness.{sound-list}

@@ -1,16 +1,15 @@
 -- A triple field's number and row, check by check as the code meets them; and that legal content is a legal row. Assumes nothing.
 use mathlib.Core.Path.{◌≡◌, refl, sym, ap, ◌∙◌}
-use mathlib.Core.Bool.{Bool, true, false, not}
+use mathlib.Core.Bool.{true, not}
 use mathlib.Core.List.{List, [], ◌∷◌, ◌++◌}
 use Prim.Native.Nat.{ℕ, ◌+◌, ◌≤◌, ◌<◌}
 use native.Mathlib.Omega.{arith}
-use lib.ListN.{length}
 use lib.Dec.{eqb}
 use borrow.Author.Tests.{eq-eqb, ne_eqb}
 use Rattle.term.specs.Refusal.{Check, refuse, done, first}
 use Rattle.term.specs.Term.{term_checks, predicate_checks}
 use Rattle.term.specs.declared.refusal.Verdict.{Verdict}
-use Rattle.term.proofs.Firsts.{Numbered, AllAt, first_holds, first_passes, first-split, first_done, number-stops, number-passes, number-alike, numbered-append, at_append, alike_append}
+use Rattle.term.proofs.Firsts.{Numbered, AllAt, first_holds, first_passes, first-split, number-stops, number-passes, number-alike, numbered-append, at_append, alike_append}
 use Rattle.term.proofs.Sorts.{term-numbered, term-at, term-alike, predicate-numbered, predicate-at, predicate-alike, passes-term, passes-predicate}
 use Rattle.annotation.specs.Kinds.{annotation_checks}
 use Rattle.annotation.proofs.Judged.{annotation-numbered, annotation-at, annotation-alike, passes-annotation}

@@ -1,19 +1,19 @@
 -- One field into the table, and all fields one after another: what is reached, and where it stops. Assumes nothing.
 use mathlib.Core.Path.{◌≡◌, refl, sym, ap, ◌∙◌}
 use mathlib.Core.Bool.{Bool, true, false, cond}
-use mathlib.Core.List.{List, [], ◌∷◌, ◌++◌}
+use mathlib.Core.List.{List, [], ◌∷◌}
 use Prim.Native.Nat.{ℕ, zero, suc, ◌+◌, ◌≤◌, ◌<◌}
 use native.Mathlib.Omega.{arith}
 use lib.ListN.{length}
-use lib.Dec.{eqb, leb, ltb}
+use lib.Dec.{ltb}
 use borrow.Author.Tests.{le-leb, lt-leb, eq-eqb, ne_eqb}
 use Rattle.ground.specs.Lists.{tab}
 use Rattle.term.specs.Refusal.{Check, refuse, verdict, done, first}
 use Rattle.term.specs.declared.refusal.Verdict.{Verdict}
-use Rattle.term.proofs.Firsts.{AllAt, at_append, first_done, first-clear, first_stops, first-place, first_holds, first_passes, number-stops}
+use Rattle.term.proofs.Firsts.{AllAt, at_append, first_done, first-clear, first-place, first_holds, first_passes, number-stops}
 use Rattle.annotation.specs.Kinds.{algebra}
-use Rattle.table.specs.Rows.{Row, Lanes, row, lanes, row_at, rows_of, add_row, filled}
-use Rattle.table.specs.Sound.{LegalRow, Sound}
+use Rattle.table.specs.Rows.{Row, Lanes, rows_of, add_row, filled}
+use Rattle.table.specs.Sound.{Sound}
 use Rattle.table.specs.Adding.{rows_with}
 use Rattle.table.specs.Putting.{PutInto, Put}
 use Rattle.table.proofs.Laid.{filled_is}

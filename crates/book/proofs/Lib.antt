@@ -2,7 +2,6 @@
 pub mod Heads
 pub mod Contents
 pub mod FieldByField
-pub mod LentOn
 pub mod Whole
 pub mod Writes
 pub mod RoundTrip

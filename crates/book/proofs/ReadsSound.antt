@@ -1,14 +1,14 @@
 -- What a done reading gives are sound rows of the head's kind, base year and rule set, what it leaves in the lanes is a sound table; and a refusal's place is within the
 -- book. Assumes nothing.
 use mathlib.Core.Path.{◌≡◌, refl, sym, ap, ◌∙◌}
-use mathlib.Core.Bool.{Bool, true, false, cond, not}
+use mathlib.Core.Bool.{Bool, true, false, not}
 use mathlib.Core.List.{List, [], ◌∷◌, ◌++◌}
-use Prim.Native.Nat.{ℕ, zero, suc, ◌+◌, ◌≤◌, ◌<◌}
+use Prim.Native.Nat.{ℕ, zero, suc, ◌≤◌, ◌<◌}
 use native.Mathlib.Omega.{arith}
 use lib.ListN.{length}
 use lib.Dec.{eqb, leb, ltb}
 use borrow.Author.Tests.{eqb-true, eqb-false, leb-false, ltb-false, not-false, eq-eqb}
-use Rattle.term.specs.Refusal.{Check, refuse, verdict, done, first}
+use Rattle.term.specs.Refusal.{Check, refuse, first}
 use Rattle.term.specs.declared.refusal.Verdict.{Verdict}
 use Rattle.term.proofs.Firsts.{Numbered, AllAt, numbered-append, at_append, first_done, first-place, first-split, first-left, first-clear}
 use Rattle.ruleset.specs.RuleSet.{is_rule_set, rule_set_checks}
@@ -17,7 +17,7 @@ use Rattle.annotation.specs.Kinds.{algebra, is_kind, kind_checks}
 use Rattle.annotation.proofs.Judged.{kind-numbered, kind_at, passes-kind}
 use Rattle.table.specs.Rows.{Row, Lanes, AsLong, add_row, rows_of, filled}
 use Rattle.table.specs.Checks.{is_unfit}
-use Rattle.table.specs.Sound.{LegalRow, Sound, Ascending, AllLegal, SoundRows}
+use Rattle.table.specs.Sound.{Sound, Ascending, AllLegal, SoundRows}
 use Rattle.table.proofs.Putting.{sound-add}
 use Rattle.table.proofs.Soundness.{fit_of, fit-within, rows-sound}
 use Rattle.table.proofs.Laid.{filled-as_long, filled-rows}

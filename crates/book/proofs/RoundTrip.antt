@@ -1,16 +1,14 @@
 -- A book's fields read back to their rows: one field, field after field, the head, the whole. Assumes nothing.
 use mathlib.Core.Path.{◌≡◌, refl, sym, ap, ◌∙◌}
-use mathlib.Core.Bool.{Bool, true, false, not, cond, ◌||◌, and-eq-true_iff}
+use mathlib.Core.Bool.{Bool, true, false, not, cond, and-eq-true_iff}
 use mathlib.Core.List.{List, [], ◌∷◌, ◌++◌, append_assoc, append-nil}
-use Prim.Native.Nat.{ℕ, zero, suc, ◌+◌, ◌*◌, ◌≤◌, ◌<◌}
-use native.Mathlib.Nat.{add_assoc}
+use Prim.Native.Nat.{ℕ, zero, suc, ◌+◌, ◌≤◌, ◌<◌}
 use native.Mathlib.Omega.{arith}
-use lib.ListN.{length, get_or, length-append}
+use lib.ListN.{length, length-append}
 use lib.Seq.{get_or-append_seam}
 use lib.Dec.{eqb, leb, ltb}
-use borrow.Author.Tests.{eq-eqb, ne_eqb, eqb-false, leb-true, le-ltb, lt-leb, le-leb}
-use Rattle.term.specs.Refusal.{Check, refuse, verdict, done, first}
-use Rattle.term.specs.declared.refusal.Verdict.{Verdict}
+use borrow.Author.Tests.{eq-eqb, ne_eqb, eqb-false, leb-true, le-ltb, lt-leb}
+use Rattle.term.specs.Refusal.{Check, done, first}
 use Rattle.term.proofs.Firsts.{first_passes, first-none}
 use Rattle.term.proofs.Sorts.{legal-below, name_below, term-passes, predicate-passes}
 use Rattle.ruleset.specs.RuleSet.{basic_set, reflexive_set, is_rule_set}
@@ -19,15 +17,14 @@ use Rattle.annotation.specs.Kinds.{algebra, is_kind}
 use Rattle.annotation.proofs.KindLaws.{laws}
 use Rattle.annotation.proofs.Legal.{legal-value}
 use Rattle.annotation.proofs.Judged.{kind-passes, annotation-passes}
-use Rattle.table.specs.Rows.{Row, row, add_row, add_all}
-use Rattle.table.specs.Sound.{LegalRow, AllLegal, SoundRows}
-use Rattle.table.proofs.Many.{no_fewer, all_no_fewer}
+use Rattle.table.specs.Rows.{Row, add_row, add_all}
+use Rattle.table.specs.Sound.{LegalRow, AllLegal}
+use Rattle.table.proofs.Many.{all_no_fewer}
 use Rattle.field.specs.Numbers.{two_at, eight_at, two_bytes, eight_bytes}
 use Rattle.field.specs.Fields.{is_cut_lem, tag_at, size_at, behind}
-use Rattle.field.proofs.Writing.{length_two}
 use Rattle.field.proofs.Back.{two_behind, eight_behind, two_back, eight_back}
-use Rattle.book.specs.Format.{first_edition, second_edition, is_edition, head_length_lem, is_head_length, edition_for, triple_length, head_size_lem, triple_size, is_base, head_checks, head_kind, head_base, head_rules, row_in, content_checks, field_checks, rules_bytes, head_bytes, field_bytes, fields_bytes, book_bytes}
-use Rattle.book.specs.Reading.{Read, read_as, step_checks, fields_from, read_book}
+use Rattle.book.specs.Format.{first_edition, second_edition, is_edition, head_length_lem, is_head_length, edition_for, triple_length, head_size_lem, triple_size, is_base, head_checks, head_base, head_rules, row_in, content_checks, field_checks, rules_bytes, head_bytes, field_bytes, fields_bytes, book_bytes}
+use Rattle.book.specs.Reading.{read_as, step_checks, fields_from, read_book}
 use Rattle.book.proofs.FieldByField.{fields_over}
 use Rattle.book.proofs.Writes.{length-head, length-field}
 

@@ -1,26 +1,24 @@
 -- Reading as a whole: refused by the lanes, the length, the head or a field, or done. Assumes nothing.
 use mathlib.Core.Path.{◌≡◌, refl, sym, ap, ◌∙◌}
-use mathlib.Core.Bool.{Bool, true, false, cond}
-use mathlib.Core.List.{List, [], ◌∷◌, ◌++◌}
-use Prim.Native.Nat.{ℕ, ◌+◌, ◌≤◌, ◌<◌}
+use mathlib.Core.Bool.{true, false, cond}
+use mathlib.Core.List.{List, []}
+use Prim.Native.Nat.{ℕ, ◌≤◌, ◌<◌}
 use native.Mathlib.Omega.{arith}
-use lib.ListN.{length, replicate, length-replicate}
+use lib.ListN.{length, length-replicate}
 use lib.Dec.{eqb, ltb}
 use borrow.Author.Tests.{eq-eqb, ne_eqb, lt-ltb, le-ltb}
 use Rattle.ground.proofs.Tab.{tab-length}
-use Rattle.term.specs.Refusal.{refuse, verdict, done, first}
-use Rattle.term.specs.declared.refusal.Verdict.{Verdict}
+use Rattle.term.specs.Refusal.{verdict, done, first}
 use Rattle.term.proofs.Firsts.{first_holds, first_passes, first-none, first-place, first_done}
 use Rattle.table.specs.Rows.{Row, Lanes, zeroed, filled}
 use Rattle.table.specs.Checks.{is_unfit}
-use Rattle.table.specs.Sound.{Sound}
-use Rattle.table.proofs.Soundness.{Fit, fit_of, sound-as_long}
+use Rattle.table.proofs.Soundness.{fit_of, sound-as_long}
 use Rattle.table.proofs.Laid.{zero_row, zeroed-alike}
 use Rattle.book.specs.declared.content.Head.{Head}
 use Rattle.book.specs.declared.fields.FieldsDone.{FieldsDone}
 use Rattle.book.specs.declared.ReadDone.{ReadDone}
 use Rattle.book.specs.Format.{head_checks}
-use Rattle.book.specs.Reading.{Read, refused, read_as, fields_of, read_book, longest_book, lend_checks, reading, Reading}
+use Rattle.book.specs.Reading.{Read, refused, fields_of, read_book, longest_book, lend_checks, reading, Reading}
 use Rattle.book.specs.Inner.{HeadOf, Fresh, FieldsRead, refused_done, ReadInto}
 use Rattle.book.proofs.ReadsSound.{head_numbered, head_at, legal-head}
 

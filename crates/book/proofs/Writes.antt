@@ -9,14 +9,14 @@ use lib.ListN.{length, set, take, drop, length-append, take-append-drop}
 use lib.Dec.{eqb, ltb}
 use borrow.Author.Tests.{eq-eqb, ne_eqb, ltb-false, not-false}
 use Rattle.ground.specs.Lists.{tab}
-use Rattle.term.specs.Refusal.{Check, refuse, verdict, done, first}
+use Rattle.term.specs.Refusal.{Check, refuse, verdict, first}
 use Rattle.term.specs.declared.refusal.Verdict.{Verdict}
 use Rattle.term.proofs.Firsts.{Numbered, numbered-append, first_stops, first-clear, first-left, first-split, first-place, first_done, first_holds, first_passes}
 use Rattle.ruleset.specs.RuleSet.{is_rule_set, rule_set_checks}
 use Rattle.ruleset.proofs.Judged.{rule_set_numbered, rule_set_at, passes-rule_set}
 use Rattle.annotation.specs.Kinds.{kind_checks}
 use Rattle.annotation.proofs.Judged.{kind-numbered, kind_at}
-use Rattle.table.specs.Rows.{Row, Lanes, row, row_at, rows_of}
+use Rattle.table.specs.Rows.{Row, Lanes, row_at, rows_of}
 use Rattle.table.specs.Checks.{table_checks}
 use Rattle.table.specs.Sound.{Sound}
 use Rattle.table.proofs.Judging.{table-numbered}
