@@ -147,7 +147,7 @@ module _ (kind a : ℕ) (l : Lanes) (count : ℕ) (n : NameLanes) (names : ℕ) 
         more = λ z. absurd (omega arith);
         rest = λ z. absurd (omega arith);
         listing = λ z. absurd (omega arith);
-        meaning = λ place next. to-put place next ∙ rw (← P.Full-is, f) refl;
+        meaning = λ place next. to-put place next ∙ rw (← P.full_is, f) refl;
       }
 
       pub triple-put : full ≡ false → LineRead kind a (Heard.heard (Said.says s p o)) l m count n k names (record { number = 0; count = n'; names = t.names })
@@ -158,5 +158,5 @@ module _ (kind a : ℕ) (l : Lanes) (count : ℕ) (n : NameLanes) (names : ℕ) 
         more = λ z. P.more;
         rest = λ z. P.rest;
         listing = λ z. T.listing e;
-        meaning = λ place next. to-put place next ∙ rw (← P.Full-is, f) (ap (next (entries_of k t.names)) (sym (P.rows_are f)));
+        meaning = λ place next. to-put place next ∙ rw (← P.full_is, f) (ap (next (entries_of k t.names)) (sym (P.rows_are f)));
       }
