@@ -1,24 +1,22 @@
 -- How large the numbers are that reading gives: a place within the file, and no more rows and names than there is room for. Assumes nothing.
-use mathlib.Core.Path.{◌≡◌, refl, sym, ap, ◌∙◌}
-use mathlib.Core.Bool.{Bool, true, false, cond, ◌&&◌}
+use mathlib.Core.Path.{◌≡◌, refl}
+use mathlib.Core.Bool.{Bool, true, false, cond}
 use mathlib.Core.List.{List, [], ◌∷◌, ◌++◌}
-use Prim.Native.Nat.{ℕ, suc, ◌+◌, ◌≤◌, ◌<◌}
+use Prim.Native.Nat.{ℕ, suc, ◌+◌, ◌≤◌}
 use native.Mathlib.Omega.{arith}
-use lib.Dec.{eqb, leb, ltb}
+use lib.Dec.{leb, ltb}
 use lib.ListN.{length, length-append}
 use borrow.Author.Tests.{ltb-true, ltb-false}
 use Rattle.annotation.specs.Kinds.{algebra}
-use Rattle.table.specs.Rows.{Row, row, add_row, Lanes}
+use Rattle.table.specs.Rows.{Row, row, add_row}
 use Rattle.ntline.specs.Grammar.{Said, Term}
 use Rattle.ntline.specs.Lines.{Heard, line_of, said_by}
 use Rattle.utf8.specs.Texts.{chars_of}
-use Rattle.names.specs.declared.Entered.{Entered}
-use Rattle.names.specs.declared.Entered.TheVariants.{Listed, New, Full}
-use Rattle.names.specs.Names.{Entry, entry, NameLanes}
+use Rattle.names.specs.Names.{Entry, entry}
 use Rattle.names.specs.Entering.{Lookup, known, has_room_lem, answer_of, entered_by, next_of, bytes_of}
 use Rattle.names.proofs.Same.{both_true}
 use Rattle.nttext.specs.Texts.{text_of_term, sort_of_term}
-use Rattle.ntenter.specs.Line.{Read, Room, refused, read_as, when_entered, enter_term, when_room, add_triple, read_line}
+use Rattle.ntenter.specs.Line.{Read, Room, refused, when_entered, enter_term, when_room, add_triple, read_line}
 use Rattle.ntread.specs.Reading.{LineAt, line_at, is_eol, begins_line, longer, lines_from, read_lines}
 
 pub record Bounded (most : ℕ) (room : Room) (r : Read) : Type 0 where

@@ -9,7 +9,7 @@ use native.Mathlib.Decide.{dec_lt}
 use lib.Dec.{eqb, leb, ltb}
 use lib.ListN.{length, get_or, drop, drop_of_length-le}
 use lib.Seq.{slice, slice-cons, slice_empty, drop-cons}
-use borrow.Author.Tests.{leb-false, ltb-true, ltb-false, eqb-true, eqb-false, eq-eqb, ne_eqb}
+use borrow.Author.Tests.{leb-false, ltb-true, ltb-false, eq-eqb, ne_eqb}
 use Rattle.ntread.specs.Reading.{is_eol, line_at, begins_line, lines_from}
 use Rattle.ntread.specs.Inner.{Inside, LineEnd}
 
