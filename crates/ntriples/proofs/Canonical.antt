@@ -1,6 +1,6 @@
 -- Writing is canonical (T3): a legal text is read as it is written, so each line is read to the row's triple. Assumes nothing.
 use mathlib.Core.Path.{◌≡◌, refl, sym, ap, subst, ◌∙◌}
-use mathlib.Core.Bool.{Bool, true, false, not, cond, ◌&&◌}
+use mathlib.Core.Bool.{Bool, true, false, not, ◌&&◌}
 use mathlib.Core.List.{List, [], ◌∷◌, ◌++◌, append_assoc, append-nil}
 use Prim.Native.Nat.{ℕ, zero, suc, ◌+◌, ◌≤◌, ◌<◌}
 use native.Mathlib.Omega.{arith}
@@ -13,7 +13,7 @@ use Rattle.utf8.specs.Characters.{one_octet, char_bytes, text_bytes}
 use Rattle.utf8.specs.Texts.{chars_of, AllCharacters}
 use Rattle.utf8.proofs.Texts.{text_of-chars}
 use Rattle.ntline.specs.Grammar as grammar
-use Rattle.ntline.specs.Lines.{Source, source_of, meant_by}
+use Rattle.ntline.specs.Lines.{Source, source_of}
 use Rattle.ntline.proofs.Sound.{TermThere, term-there}
 use Rattle.ntline.proofs.Encoded.{all_append, white_all, object-all}
 use Rattle.term.specs.Refusal.{Check, done, first}

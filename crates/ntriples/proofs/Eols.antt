@@ -1,11 +1,11 @@
 -- A legal text holds no CR and no LF. Assumes nothing.
 use mathlib.Core.Path.{◌≡◌, refl, sym, ap, ◌∙◌}
-use mathlib.Core.Bool.{Bool, true, false, cond, ◌||◌, true≢false, false≢true}
+use mathlib.Core.Bool.{Bool, true, false, cond, true≢false}
 use mathlib.Core.List.{List, [], ◌∷◌, ◌++◌}
 use Prim.Native.Nat.{ℕ, zero, suc, ◌+◌, ◌/◌, ◌%◌, ◌≤◌}
 use native.Mathlib.Omega.{arith}
 use lib.Dec.{eqb, leb}
-use borrow.Author.Tests.{eqb-true, eqb-false, ne_eqb, leb-false}
+use borrow.Author.Tests.{eqb-false, ne_eqb}
 use Rattle.ground.specs.Lists.{All}
 use Rattle.utf8.specs.Characters.{is_character_lem, one_octet, two_octets, three_octets, four_octets, char_bytes, text_bytes}
 use Rattle.ntline.specs.Classes.{is_alpha_lem, is_digit_lem, is_alnum_lem, is_barred, is_iri_char_lem, is_base, is_name_start, is_name_char_lem, is_label_start_lem}

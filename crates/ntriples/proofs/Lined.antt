@@ -1,11 +1,11 @@
 -- A line with its LF, in front of what follows, is the first of the lines. Assumes nothing.
-use mathlib.Core.Path.{◌≡◌, refl, sym, ap, ◌∙◌}
-use mathlib.Core.Bool.{Bool, true, false, not, cond}
+use mathlib.Core.Path.{◌≡◌, refl, ap, ◌∙◌}
+use mathlib.Core.Bool.{false}
 use mathlib.Core.List.{List, [], ◌∷◌, ◌++◌}
-use Prim.Native.Nat.{ℕ, zero, suc, ◌+◌, ◌≤◌}
+use Prim.Native.Nat.{ℕ, suc, ◌+◌, ◌≤◌}
 use native.Mathlib.Omega.{arith}
 use lib.ListN.{length}
-use Rattle.ntread.specs.Reading.{LineAt, line_at, is_eol, longer, lines_from}
+use Rattle.ntread.specs.Reading.{line_at, is_eol, longer, lines_from}
 use Rattle.ntriples.proofs.Eols.{NoEol}
 
 line-ends : (x : ℕ) (rest : List ℕ) (at : ℕ) → is_eol x ≡ false → lines_from at (x ∷ 0xA ∷ rest) ≡ line_at at (x ∷ []) ∷ lines_from (suc (suc at)) rest

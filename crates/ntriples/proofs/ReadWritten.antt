@@ -1,15 +1,15 @@
 -- What reading gave can be written (T5): its list holds a legal text for every number of its rows, and no subject is a literal.
 -- Assumes nothing.
 use mathlib.Core.Path.{◌≡◌, refl, sym, ap, subst, ◌∙◌}
-use mathlib.Core.Bool.{Bool, true, false, not, cond, ◌&&◌, ◌||◌}
+use mathlib.Core.Bool.{Bool, true, false, not, ◌&&◌, ◌||◌}
 use mathlib.Core.List.{List, [], ◌∷◌, ◌++◌, map, append_assoc}
 use mathlib.Core.Logic.{◌⊎◌, inl, inr}
 use Prim.Native.Nat.{ℕ, zero, suc, ◌+◌, ◌-◌, ◌≤◌, ◌<◌}
 use native.Mathlib.Omega.{arith}
-use lib.ListN.{length, get_or, take, drop, replicate, length-append, length-replicate}
+use lib.ListN.{length, get_or, take, replicate, length-append, length-replicate}
 use lib.Seq.{slice, take_at}
-use lib.Dec.{eqb, leb, ltb}
-use borrow.Author.Tests.{ne_eqb, le-leb, le-ltb, ltb-true, ltb-false}
+use lib.Dec.{eqb, ltb}
+use borrow.Author.Tests.{ne_eqb, le-leb, le-ltb, ltb-true}
 use Rattle.ground.specs.Lists.{tab}
 use Rattle.ground.proofs.Tab.{tab-ext}
 use Rattle.term.specs.Refusal.{Check, refuse, verdict, done, first}
@@ -20,7 +20,6 @@ use Rattle.annotation.specs.Kinds.{annotation_checks}
 use Rattle.annotation.proofs.Judged.{passes-kind}
 use Rattle.table.specs.Rows.{Row, Lanes, row_at, rows_of, filled}
 use Rattle.table.specs.Checks.{is_unfit, table_checks}
-use Rattle.table.specs.Sound.{Sound}
 use Rattle.table.proofs.Judging.{table-numbered}
 use Rattle.table.proofs.Soundness.{sound-passes}
 use Rattle.table.proofs.Laid.{filled-rows}
@@ -29,10 +28,10 @@ use Rattle.names.specs.Entering.{bytes_of}
 use Rattle.ntline.specs.Grammar as grammar
 use Rattle.nttext.specs.Texts.{text_of_term, sort_of_term, is_legal_text}
 use Rattle.nttext.proofs.LegalTexts.{text-legal}
-use Rattle.ntenter.specs.Line.{Room, room_of}
-use Rattle.ntread.specs.Reading.{LineAt, lines_from, lent_checks, read_file, ends_from, texts_of, filled_names}
+use Rattle.ntenter.specs.Line.{room_of}
+use Rattle.ntread.specs.Reading.{LineAt, lines_from, read_file, ends_from, texts_of, filled_names}
 use Rattle.ntriples.specs.Writing.{has_text, is_unwritable, rows_writable, file_bytes, write_checks}
-use Rattle.ntriples.specs.Shown.{Triple, meant_of, triple_of, triple_said, InRows, InLines, InFile, lines_checks, T5}
+use Rattle.ntriples.specs.Shown.{Triple, triple_of, triple_said, InRows, InLines, lines_checks, T5}
 use Rattle.ntriples.proofs.Rows.{rows_pass}
 use Rattle.ntriples.proofs.Writes.{list_fit}
 use Rattle.ntriples.proofs.ReadingMeansLines.{Sayable, says-sayable}

@@ -97,6 +97,7 @@ pub record Holds (kind a : ℕ) (room : Room) (ts : List Triple) (es : List Entr
 
 legal-in : (kind : ℕ) {x : Row} (R : List Row) → AllLegal kind R → In x R → LegalRow kind x
 unfolding AllLegal
+legal-in kind [] h i = elim i [ ]
 legal-in kind (y ∷ ys) h (here e) = subst (LegalRow kind) e h.0
 legal-in kind (y ∷ ys) h (later i) = legal-in kind ys h.1 i
 

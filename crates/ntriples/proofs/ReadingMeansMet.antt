@@ -37,6 +37,7 @@ module _ {A : Type 0} where
 
   pub in_one : {x y : A} → In x (y ∷ []) → y ≡ x
   in_one (here e) = e
+  in_one {y = y} (later i) = elim i [ ]
 
 -- ---- met
 
@@ -96,6 +97,7 @@ module _ {A : Type 0} (same : A → A → Bool) where
 
     pub met_all : (met xs : List A) {x : A} → In x xs → In x (met_after same met xs)
     unfolding met_after
+    met_all met [] {x = x} i = elim i [ ]
     met_all met (y ∷ xs) {x} (here e) = met-before (cond (is_among same y met) met (met ++ (y ∷ []))) xs (go (is_among same y met) refl)
       where
         go : (b : Bool) → is_among same y met ≡ b → In x (cond b met (met ++ (y ∷ [])))

@@ -12,6 +12,7 @@ use Rattle.ntriples.proofs.ReadingMeansMet.{In, here, later}
 
 over-in : (k : ℕ) {r : Row} (R : List Row) → Over k R → In r R → k < key r
 unfolding Over
+over-in k {r = r} [] o i = elim i [ ]
 over-in k (x ∷ xs) o (here e) = subst (λ (y : Row). k < key y) e o.0
 over-in k (x ∷ xs) o (later i) = over-in k xs o.1 i
 
@@ -19,6 +20,7 @@ module _ (K : Algebra) (r : Row) where
   -- the same row once more changes nothing
   pub add_there : Laws K → (R : List Row) → Ascending R → In r R → add_row K r R ≡ R
   unfolding Ascending
+  add_there L [] s i = elim i [ ]
   add_there L (x ∷ xs) s (here e) =
       add_same K r x xs (ap key (sym e))
       ∙ ap (λ (y : Row). y ∷ xs) (ap (joined K r) e ∙ ap (row r.s r.p r.o) (L.join_self r.a) ∙ sym e)
@@ -51,6 +53,7 @@ module _ (K : Algebra) (r : Row) where
       go (more q) ih = subst (In r) (sym (add_more K r x xs q)) (later ih)
 
   pub still-in : (R : List Row) → NewKey R → {y : Row} → In y R → In y (add_row K r R)
+  still-in [] h {y = y} i = elim i [ ]
   still-in (x ∷ xs) h {y} i = go (tri (key r) (key x)) i (λ j. still-in xs (new_rest x xs h) j)
     where
       tail : In y (x ∷ xs) → (In y xs → In y (add_row K r xs)) → In y (x ∷ add_row K r xs)

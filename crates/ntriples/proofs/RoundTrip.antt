@@ -1,14 +1,14 @@
 -- What was written is read back (T4): each line is heard as its row's triple, so the rooms decide alone, and the triples are the same.
 -- Assumes nothing.
 use mathlib.Core.Path.{◌≡◌, refl, sym, ap, subst, ◌∙◌}
-use mathlib.Core.Bool.{Bool, true, false, not, cond, ◌&&◌, ◌||◌, true≢false, false≢true}
+use mathlib.Core.Bool.{Bool, true, false, not, cond, ◌&&◌, ◌||◌, true≢false}
 use mathlib.Core.List.{List, [], ◌∷◌, ◌++◌, map, map-append, append_assoc, append-nil}
-use mathlib.Core.Logic.{◌⊎◌, inl, inr, ◌↔◌}
-use Prim.Native.Nat.{ℕ, zero, suc, ◌+◌, ◌≤◌, ◌<◌}
+use mathlib.Core.Logic.{◌⊎◌, inl, inr}
+use Prim.Native.Nat.{ℕ, suc, ◌≤◌, ◌<◌}
 use native.Mathlib.Omega.{arith}
 use lib.ListN.{length, length-append}
-use lib.Dec.{eqb, leb, ltb}
-use borrow.Author.Tests.{eqb-true, leb-true, le-leb, le-ltb}
+use lib.Dec.{leb, ltb}
+use borrow.Author.Tests.{leb-true, le-leb, le-ltb}
 use Rattle.ground.specs.Lists.{each}
 use Rattle.ground.proofs.Each.{each_append}
 use Rattle.term.specs.Refusal.{Check, refuse, done, first}
@@ -21,17 +21,15 @@ use Rattle.table.specs.Checks.{is_unfit}
 use Rattle.table.specs.Sound.{Over, Ascending}
 use Rattle.table.proofs.Soundness.{sound-list}
 use Rattle.names.specs.Names.{Entry, NameLanes, entries_of, is_unfit_list}
-use Rattle.names.specs.Entering.{same_text_lem}
-use Rattle.names.proofs.Same.{both_true, same-is}
+use Rattle.names.proofs.Same.{both_true}
 use Rattle.ntline.specs.Grammar as grammar
 use Rattle.ntline.specs.Lines.{Heard, heard}
 use Rattle.ntline.proofs.Encoded.{line-heard, line-one}
 use Rattle.ntenter.specs.Line.{Room, room_of}
 use Rattle.ntread.specs.Reading.{LineAt, lines_from, lent_checks, read_file}
-use Rattle.ntriples.specs.Writing.{file_bytes, write_checks}
-use Rattle.ntriples.specs.Shown as shown
-use Rattle.ntriples.specs.Shown.{Meant, Triple, meant_of, triple_of, triple_said, InRows, InLines, is_among, met_after, same_meant, same_triple, texts_in, different_texts, different_triples, bytes_in, texts_fit, rows_fit_lem, heard_in, is_wrong, triples_said, triples_in, line_checks, lines_checks, LinesMean, TermIn, TellsApart, ReadBack, T4}
-use Rattle.ntriples.proofs.ReadingMeansMet.{In, in_front, in_behind, in_either, in_one, met-append, met-grown}
+use Rattle.ntriples.specs.Writing.{file_bytes}
+use Rattle.ntriples.specs.Shown.{Triple, meant_of, triple_of, triple_said, InRows, InLines, is_among, met_after, same_meant, same_triple, texts_in, different_texts, different_triples, bytes_in, texts_fit, rows_fit_lem, heard_in, is_wrong, triples_said, triples_in, line_checks, lines_checks, LinesMean, TermIn, TellsApart, T4}
+use Rattle.ntriples.proofs.ReadingMeansMet.{In, in_either, in_one, met-append, met-grown}
 use Rattle.ntriples.proofs.ReadingMeansTexts.{bytes-append}
 use Rattle.ntriples.proofs.ReadingMeansHeld.{meant_tells}
 use Rattle.ntriples.proofs.ReadingMeans.{reading-means, reading-refusals, count_of-triples}
@@ -59,10 +57,12 @@ module _ (es : List Entry) where
 
   -- "M(T, L)" is the set of the triples of the lines
   rows-lines : {ls : List LineAt} {rs : List Row} → LinesMean es ls rs → (t : Triple) → InRows es t rs → InLines t ls
+  rows-lines LinesMean.none t i = elim i [ ]
   rows-lines (LinesMean.more s p o c d m more) t (InRows.here e) = InLines.here d (m ∙ e)
   rows-lines (LinesMean.more s p o c d m more) t (InRows.later i) = InLines.later (rows-lines more t i)
 
   lines_rows : {ls : List LineAt} {rs : List Row} → LinesMean es ls rs → (t : Triple) → InLines t ls → InRows es t rs
+  lines_rows LinesMean.none t i = elim i [ ]
   lines_rows (LinesMean.more s p o c d m more) t (InLines.here {s = x} {p = y} {o = z} f e) = InRows.here (sym m ∙ said_same s p o x y z (line-one d f) ∙ e)
   lines_rows (LinesMean.more s p o c d m more) t (InLines.later i) = InRows.later (lines_rows more t i)
 
@@ -170,14 +170,17 @@ module _ (room : Room) where
 
 module _ (es : List Entry) (whole : List Row) (apart : TellsApart es whole) where
   term-s : (x : Row) (rs : List Row) → In x rs → TermIn x.s rs
+  term-s x [] i = elim i [ ]
   term-s x (y ∷ ys) (In.here e) = TermIn.subject (ap (λ (r : Row). r.s) e)
   term-s x (y ∷ ys) (In.later i) = TermIn.later (term-s x ys i)
 
   term-p : (x : Row) (rs : List Row) → In x rs → TermIn x.p rs
+  term-p x [] i = elim i [ ]
   term-p x (y ∷ ys) (In.here e) = TermIn.predicate (ap (λ (r : Row). r.p) e)
   term-p x (y ∷ ys) (In.later i) = TermIn.later (term-p x ys i)
 
   term-o : (x : Row) (rs : List Row) → In x rs → TermIn x.o rs
+  term-o x [] i = elim i [ ]
   term-o x (y ∷ ys) (In.here e) = TermIn.object (ap (λ (r : Row). r.o) e)
   term-o x (y ∷ ys) (In.later i) = TermIn.later (term-o x ys i)
 
@@ -200,6 +203,7 @@ module _ (es : List Entry) (whole : List Row) (apart : TellsApart es whole) wher
 
   over-in : (k : ℕ) (rs : List Row) → Over k rs → (y : Row) → In y rs → k < key y
   unfolding Over
+  over-in k [] h y i = elim i [ ]
   over-in k (x ∷ xs) h y (In.here e) = rw e at h.0
   over-in k (x ∷ xs) h y (In.later i) = over-in k xs h.1 y i
 

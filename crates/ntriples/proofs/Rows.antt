@@ -1,21 +1,21 @@
 -- Which rows can be written, and the bytes of rows one behind another. Assumes nothing.
 use mathlib.Core.Path.{◌≡◌, refl, sym, ap, subst, ◌∙◌}
-use mathlib.Core.Bool.{Bool, true, false, not, cond, ◌&&◌, ◌||◌}
-use mathlib.Core.List.{List, [], ◌∷◌, ◌++◌, append_assoc, append-nil}
+use mathlib.Core.Bool.{Bool, true, false, not, ◌&&◌, ◌||◌}
+use mathlib.Core.List.{List, [], ◌++◌, append_assoc, append-nil}
 use Prim.Native.Nat.{ℕ, zero, suc, ◌+◌, ◌-◌, ◌≤◌, ◌<◌}
 use native.Mathlib.Numerals.{add-one}
 use native.Mathlib.Omega.{arith}
 use native.Mathlib.Decide.{dec_lt}
-use lib.ListN.{length, get_or, set, take, drop, length-append, take-append-drop}
+use lib.ListN.{length, get_or, set, length-append, take-append-drop}
 use lib.Dec.{eqb}
-use borrow.Author.Tests.{eq-eqb, ne_eqb, le-ltb, not-false}
+use borrow.Author.Tests.{eq-eqb, ne_eqb, not-false}
 use Rattle.ground.specs.Lists.{tab}
 use Rattle.field.specs.Numbers.{written}
-use Rattle.field.proofs.Writing.{length-written, written_both}
-use Rattle.term.specs.Refusal.{Check, refuse, verdict, first}
+use Rattle.field.proofs.Writing.{written_both}
+use Rattle.term.specs.Refusal.{Check, verdict, first}
 use Rattle.term.specs.Term.{sort_of}
-use Rattle.term.proofs.Firsts.{Numbered, first_holds, first_passes}
-use Rattle.table.specs.Rows.{Row, Lanes, lanes, row, row_at, rows_of}
+use Rattle.term.proofs.Firsts.{first_holds, first_passes}
+use Rattle.table.specs.Rows.{Row, Lanes, row, row_at, rows_of}
 use Rattle.names.specs.Names.{Entry, NameLanes, text_at_lem, entries_of}
 use Rattle.names.specs.Finding.{SpanAt, FirstWith}
 use Rattle.names.proofs.Looking.{first-text, first-none}

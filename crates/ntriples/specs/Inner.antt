@@ -1,7 +1,7 @@
 -- What only the parts of the code cite: rows without their annotations, which are not written.
 use Rattle.std.specs.Prelude.{◌≡◌, Bool, true, false, cond, List, [], ℕ, ◌≤◌, ◌<◌, length, get_or}
 use Rattle.term.specs.Term.{sort_of}
-use Rattle.table.specs.Rows.{Row, Lanes, lanes, row_at, rows_of}
+use Rattle.table.specs.Rows.{Lanes, lanes, row_at, rows_of}
 use Rattle.names.specs.Names.{Entry, NameLanes, text_at_lem, entries_of}
 use Rattle.ntwrite.specs.Written.{Fit}
 use Rattle.nttext.specs.Texts.{is_legal_text}
