@@ -20,7 +20,7 @@ use Rattle.machine.specs.Running.{answer_room, is_unfit_room, running, Ran}
 use Rattle.meaning.specs.AsMeant.{AsMeant, RunAsMeant}
 use Rattle.meaning.proofs.ConditionThree.{condition_three}
 use Rattle.meaning.proofs.Passing.{passes-compiles, passes-runs, compiles_passes, askable_compiles, askable_runs}
-use Rattle.steplist.specs.Filling.{Laid, Filling}
+use Rattle.steplist.specs.Filling.{Laid}
 use Rattle.steplist.specs.Asking.{asked_for, asking}
 use Rattle.trackvesper.specs.Answered.{Answered, EveryRunAnswers, EveryAskAnswers, EveryCompileAnswers, PublicConditionThree, AskConditionThree, EveryPassingAnswered, EveryTreeAnswered, CheckPassesExactly}
 

@@ -1,14 +1,14 @@
 -- A book read into lent lanes, and a table closed there: what stands in the lanes after each, whatever their length. Assumes nothing.
 use mathlib.Core.Path.{◌≡◌, refl, sym, ap, ◌∙◌}
 use mathlib.Core.Bool.{Bool, true, false, cond}
-use mathlib.Core.List.{List, []}
+use mathlib.Core.List.{List}
 use Prim.Native.Nat.{ℕ, ◌≤◌, ◌<◌}
 use native.Mathlib.Decide.{dec_lt}
 use native.Mathlib.Omega.{arith}
 use lib.ListN.{length}
-use lib.Dec.{eqb, ltb}
+use lib.Dec.{eqb}
 use borrow.Author.Tests.{eqb-true, eqb-false}
-use Rattle.term.specs.Refusal.{verdict, done, first}
+use Rattle.term.specs.Refusal.{verdict, first}
 use Rattle.term.specs.declared.refusal.Verdict.{Verdict}
 use Rattle.term.proofs.Firsts.{first_done, first-split}
 use Rattle.ruleset.specs.RuleSet.{is_rule_set}
@@ -20,7 +20,7 @@ use Rattle.table.proofs.Laid.{filled-rows, filled-as_long}
 use Rattle.rhodf.specs.Rules.{rules_of}
 use Rattle.rhodf.specs.Closure.{ClosureOf}
 use Rattle.rhodf.proofs.Exists.{closure_exists}
-use Rattle.book.specs.Reading.{Read, reading, longest_book, lend_checks, Reading}
+use Rattle.book.specs.Reading.{Read, reading, lend_checks, Reading}
 use Rattle.book.proofs.ReadsSound.{LegalHead, reading-sound}
 use Rattle.closing.specs.Closing.{Closing}
 use Rattle.closing.proofs.CloseCloses.{Closes, close_closes}

@@ -1,18 +1,18 @@
 -- The numbers of a makers' list's reading and writing are small enough to stand in one word. Assumes nothing.
 use mathlib.Core.Path.{◌≡◌, refl, sym, ap, ◌∙◌}
-use mathlib.Core.Bool.{Bool, true, false, not, cond, ◌&&◌, ◌||◌}
+use mathlib.Core.Bool.{Bool, true, false, not, cond, ◌||◌}
 use mathlib.Core.List.{List, [], ◌∷◌, ◌++◌}
 use Prim.Native.Nat.{ℕ, zero, suc, ◌+◌, ◌*◌, ◌≤◌, ◌<◌}
 use native.Mathlib.Omega.{arith}
-use lib.Dec.{eqb, leb, ltb}
+use lib.Dec.{eqb, ltb}
 use lib.ListN.{length}
 use borrow.Author.Tests.{eqb-true, eq-eqb, ne_eqb, leb-true, ltb-false, not-false}
 use Rattle.ground.proofs.Bools.{neither}
 use Rattle.term.specs.Refusal.{Check, refuse, first}
 use Rattle.term.specs.declared.refusal.Verdict.{Verdict}
 use Rattle.term.proofs.Firsts.{AllAt, at_append, number-split}
-use Rattle.annotation.specs.Kinds.{is_kind, is_legal, kind_checks, annotation_checks}
-use Rattle.table.specs.Rows.{Lanes, row_at, rows_of}
+use Rattle.annotation.specs.Kinds.{is_kind}
+use Rattle.table.specs.Rows.{Lanes, row_at}
 use Rattle.table.specs.Checks.{triple_checks, row_checks, rows_checks, is_not_above, is_unfit}
 use Rattle.table.proofs.Judging.{triple-at}
 use Rattle.names.specs.Names.{Entry, NameLanes, entries_of, is_unfit_list}
@@ -20,7 +20,7 @@ use Rattle.names.proofs.Same.{both_true}
 use Rattle.ntenter.specs.Line.{Read, room_of}
 use Rattle.ntread.specs.Reading.{lines_from, read_lines, lent_checks, when_done, read_file, ReadingTriples}
 use Rattle.ntread.proofs.Bounded.{lines_bounded, places_within}
-use Rattle.ntriples.specs.Writing.{is_unwritable, rows_writable, file_bytes, write_checks, WritingTriples}
+use Rattle.ntriples.specs.Writing.{rows_writable, write_checks, WritingTriples}
 use Rattle.trackvesper.specs.ClosedBook.{a_number, packed}
 use Rattle.trackvesper.specs.Triples.{a_name, ReadTriplesExported, WriteTriplesExported}
 
