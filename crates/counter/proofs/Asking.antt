@@ -2,30 +2,29 @@
 use mathlib.Core.Path.{◌≡◌, refl, sym, ap, subst, ◌∙◌}
 use mathlib.Core.Bool.{false}
 use mathlib.Core.List.{List, [], ◌∷◌, ◌++◌, map, append-nil, append_assoc}
-use Prim.Native.Nat.{ℕ, zero, suc, ◌+◌, ◌*◌, ◌≤◌, ◌<◌}
+use Prim.Native.Nat.{ℕ, zero, suc, ◌+◌, ◌*◌, ◌≤◌}
 use native.Mathlib.Nat.{suc-mul}
 use native.Mathlib.Omega.{arith}
-use lib.ListN.{length, take, drop}
+use lib.ListN.{length, drop}
 use lib.Seq.{take_at, drop-append-add}
 use Rattle.ground.specs.Lists.{tab, each, All}
 use Rattle.ground.proofs.Each.{each-ext}
 use Rattle.ground.proofs.Tab.{tab-length}
 use Rattle.annotation.specs.Kinds.{algebra}
-use Rattle.table.specs.Rows.{Row, Lanes, rows_of}
+use Rattle.table.specs.Rows.{Lanes, rows_of}
 use Rattle.table.specs.Sound.{Sound}
 use Rattle.parts.specs.Part.{Part}
 use Rattle.parts.specs.Format.{Out, ok}
-use Rattle.question.specs.declared.records.StepRecord.{StepRecord}
 use Rattle.question.specs.Steps.{Step}
 use Rattle.question.specs.Records.{record_of}
 use Rattle.question.specs.Compiling.{Final, steps, refused, compiling}
-use Rattle.question.proofs.AfterReading.{CameFrom, came_from}
+use Rattle.question.proofs.AfterReading.{came_from}
 use Rattle.question.proofs.AtMost.{steps-at_most_48}
 use Rattle.question.proofs.Judged.{opened}
 use Rattle.answers.specs.declared.bindings.Bindings.{Bindings}
 use Rattle.answers.specs.Answers.{empty}
 use Rattle.machine.specs.Trace.{trace_of}
-use Rattle.machine.specs.Bounded.{Outcome, nothing, bounded}
+use Rattle.machine.specs.Bounded.{Outcome, bounded}
 use Rattle.machine.specs.Running.{answer_room, is_unfit_room, running, Ran}
 use Rattle.machine.proofs.RunBounds.{answers-within}
 use Rattle.meaning.specs.Published.{Substitution, published}
@@ -35,8 +34,8 @@ use Rattle.meaning.specs.AsMeant.{AsMeant}
 use Rattle.meaning.proofs.ConditionThree.{condition_three}
 use Rattle.meaning.proofs.Steps.{program-trace}
 use Rattle.steplist.specs.Asking.{asked_for, asking}
-use Rattle.printing.specs.Text.{asked_line, answer_line}
-use Rattle.printing.specs.Laid.{Laid, LaidWithin, Fronted, answer_at, answers_in, asked_in}
+use Rattle.printing.specs.Text.{asked_line}
+use Rattle.printing.specs.Laid.{LaidWithin, Fronted, answer_at, answers_in, asked_in}
 use Rattle.printing.proofs.Laying.{laid-front}
 use Rattle.counter.specs.Counted.{of_steps, comes_to, line_of, asked_lines}
 use Rattle.counter.specs.Turns.{asked_room, Is}
@@ -74,12 +73,14 @@ lanes-answers [] terms anns h = refl
 lanes-answers (b ∷ given) terms anns h =
     let xs = each (λ (c : Bindings). c.terms) given ++ terms in
     let ys = each (λ (c : Bindings). c.anns) given ++ anns in
-    rw (append_assoc b.terms (each (λ (c : Bindings). c.terms) given) terms, append_assoc b.anns (each (λ (c : Bindings). c.anns) given) anns)
-    (rw (first-is b h.0 xs ys)
+    let more = length (b ∷ given) in
+    ap (λ (t : List ℕ). answers_in t (each (λ (c : Bindings). c.anns) (b ∷ given) ++ anns) more) (append_assoc b.terms (each (λ (c : Bindings). c.terms) given) terms)
+    ∙ ap (λ (a : List ℕ). answers_in (b.terms ++ xs) a more) (append_assoc b.anns (each (λ (c : Bindings). c.anns) given) anns)
+    ∙ rw (first-is b h.0 xs ys)
     (ap (λ (x : List ℕ). line_of b ++ x)
     (each-tab (answer_at (b.terms ++ xs) (b.anns ++ ys)) (λ i. suc i) (length given)
     ∙ each-ext (λ (i : ℕ). answer_at (b.terms ++ xs) (b.anns ++ ys) (suc i)) (answer_at xs ys) (tab (length given) (λ i. i)) (next_is b h.0 xs ys)
-    ∙ lanes-answers given terms anns h.1)))
+    ∙ lanes-answers given terms anns h.1))
 
 -- what was run is printed
 pub ran_lines : (o : Outcome) (number place answers looks : ℕ) (terms anns terms' anns' : List ℕ) → All Sized o.given

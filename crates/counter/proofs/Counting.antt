@@ -1,5 +1,5 @@
 -- One text for each input; and what `main` writes, turn by turn, is that text. Assumes nothing.
-use mathlib.Core.Path.{◌≡◌, refl, sym, ap, subst, ◌∙◌}
+use mathlib.Core.Path.{◌≡◌, refl, sym, ap, ◌∙◌}
 use mathlib.Core.Bool.{true, false}
 use mathlib.Core.List.{List, [], ◌++◌}
 use Prim.Native.Nat.{ℕ, ◌≤◌, ◌<◌}
@@ -15,7 +15,7 @@ use Rattle.rhodf.proofs.Exists.{closure_exists}
 use Rattle.trackvesper.specs.ClosedBook.{said}
 use Rattle.printing.specs.Text.{refused_line}
 use Rattle.counter.specs.Counted.{Next, ended, cut, whole, next, comes_to, asked_lines, Asks, no_more, cut_short, no_room, asks, Counted, no_book, cut_book, unread, opened}
-use Rattle.counter.specs.Turns.{Ready, Opening, Turned}
+use Rattle.counter.specs.Turns.{Ready, Turned}
 use Rattle.counter.specs.Run.{front, behind, Answers, last_turn, one_turn, Runs, book_alone, book_first}
 use Rattle.counter.proofs.Nexts.{ended-not_cut, ended-not_whole, cut-not_whole, same_whole, true-not_false, front-ended, front_cut, front-whole}
 

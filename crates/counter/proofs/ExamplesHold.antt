@@ -3,7 +3,6 @@ use mathlib.Core.Path.{◌≡◌, refl, ap, ◌∙◌}
 use mathlib.Core.List.{List, [], ◌∷◌, ◌++◌, append-nil}
 use Prim.Native.Nat.{ℕ}
 use native.Mathlib.Omega.{arith}
-use lib.ListN.{length, take}
 use Rattle.ground.specs.Lists.{tab, each, all_below}
 use Rattle.term.specs.Refusal.{verdict, first}
 use Rattle.ruleset.specs.RuleSet.{basic_set, is_rule_set}
@@ -13,9 +12,9 @@ use Rattle.field.specs.Numbers.{two_at, four_at, eight_at}
 use Rattle.rhodf.proofs.ExamplesHold.{examples-hold}
 use Rattle.book.specs.Format.{row_in}
 use Rattle.book.specs.Reading.{read_as, refused, fields_from, read_book}
-use Rattle.parts.specs.Format.{term_at, annotation_at, pattern_at, triple_refusal_lem, field_in, tag_of, pair_of, read_part}
+use Rattle.parts.specs.Format.{field_in, read_part}
 use Rattle.question.specs.Steps.{compile, size, program}
-use Rattle.question.specs.Compiling.{Final, steps, compiled, finish, compiling}
+use Rattle.question.specs.Compiling.{steps, compiled, finish, compiling}
 use Rattle.answers.specs.Answers.{agree, merged, match_term, match_ann, matched}
 use Rattle.machine.specs.Trace.{seek_rows, trace_from}
 use Rattle.machine.specs.Bounded.{Outcome, nothing, bounded}
@@ -25,7 +24,7 @@ use Rattle.meaning.proofs.ExamplesHold.{compiles_from_bytes}
 use Rattle.trackvesper.specs.ClosedBook.{said}
 use Rattle.printing.specs.Text.{bytes_of, decimal_in, decimal, line, numbers_line, refused_line}
 use Rattle.printing.specs.Examples.{p1_book}
-use Rattle.counter.specs.Counted.{next, ended, whole, of_steps, comes_to, asked_lines, Asks, no_more, cut_short, asks, Counted, no_book, cut_book as by-cut, unread, opened, all_looks}
+use Rattle.counter.specs.Counted.{next, whole, of_steps, comes_to, asked_lines, Asks, no_more, cut_short, asks, Counted, no_book, cut_book as by-cut, unread, opened, all_looks}
 use Rattle.counter.specs.Examples.{behind_its_length, p11_input, P11Asked, P12Asked, CutBook, CutQuestion, BookAlone}
 use Rattle.counter.proofs.Nexts.{ended-not_whole, cut-not_whole}
 use Rattle.counter.proofs.Counting.{asks-ended, asks-cut, Asked, asks-asked, counted-short, counted-unread, counted-opened}

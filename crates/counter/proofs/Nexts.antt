@@ -1,17 +1,17 @@
 -- What stands next in the input: as the code finds it, and in the front of the input. Assumes nothing.
 use mathlib.Core.Path.{◌≡◌, refl, sym, ap, ◌∙◌}
-use mathlib.Core.Bool.{Bool, true, false, cond}
+use mathlib.Core.Bool.{Bool, true, false}
 use mathlib.Core.List.{List, [], ◌∷◌}
 use Prim.Native.Nat.{ℕ, suc, ◌+◌, ◌-◌, ◌*◌, ◌≤◌, ◌<◌}
 use native.Mathlib.Decide.{dec_lt}
 use native.Mathlib.Omega.{arith}
 use lib.ListN.{length, get_or, take, drop}
 use lib.Seq.{take_all, length-take-le, slice_empty}
-use lib.Dec.{eqb, leb, ltb}
+use lib.Dec.{eqb, leb}
 use borrow.Author.Tests.{lt-ltb, le-ltb, leb-true, leb-false}
 use Rattle.counter.specs.Counted.{Next, ended, cut, whole, behind_length, next}
-use Rattle.counter.specs.Turns.{next_as, Came}
-use Rattle.counter.specs.Run.{reach, front, behind}
+use Rattle.counter.specs.Turns.{Came}
+use Rattle.counter.specs.Run.{front, behind}
 
 -- ---- the three are apart
 

@@ -6,8 +6,7 @@ use Prim.Native.Nat.{ℕ, ◌-◌, ◌≤◌, ◌<◌}
 use native.Mathlib.Omega.{arith}
 use lib.ListN.{length, take, drop}
 use Rattle.ruleset.specs.RuleSet.{is_rule_set}
-use Rattle.table.specs.Rows.{Row, Lanes, rows_of}
-use Rattle.table.specs.Sound.{Sound}
+use Rattle.table.specs.Rows.{Lanes, rows_of}
 use Rattle.book.specs.Reading.{Reading}
 use Rattle.closing.specs.Closing.{Closing}
 use Rattle.trackvesper.specs.ClosedBook.{fresh_lanes, said}
@@ -31,7 +30,7 @@ use Rattle.trackvesper.proofs.ReadAndClosed.{
 use Rattle.printing.specs.Text.{refused_line}
 use Rattle.printing.specs.Laid.{Laid, Fronted}
 use Rattle.printing.proofs.Laying.{laid_none, laid-front, refused-long}
-use Rattle.counter.specs.Counted.{Next, ended, cut, whole, next, comes_to, asked_lines}
+use Rattle.counter.specs.Counted.{ended, cut, whole, next, comes_to, asked_lines}
 use Rattle.counter.specs.Turns.{asked_room, Is, Came, Over, Ready, Opening, Turned}
 use Rattle.counter.proofs.Nexts.{ended-not_cut, ended-not_whole, cut-not_whole, same_whole, true-not_false}
 

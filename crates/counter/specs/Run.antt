@@ -1,8 +1,8 @@
 -- The counter's `main`, in words: it takes what stands next from the input, lets `open` or `answer` lay the text for it, and writes that text,
 -- until it is told that this was all.
-use Rattle.std.specs.Prelude.{◌≡◌, true, false, List, [], ◌∷◌, ◌++◌, ℕ, suc, ◌+◌, ◌*◌, take, drop}
+use Rattle.std.specs.Prelude.{true, false, List, [], ◌∷◌, ◌++◌, ℕ, suc, ◌+◌, ◌*◌, take, drop}
 use Rattle.table.specs.Rows.{Lanes, rows_of}
-use Rattle.counter.specs.Turns.{Opening, Ready, Turned}
+use Rattle.counter.specs.Turns.{Opening, Turned}
 
 -- a length and as many bytes as it says, or what there is
 abbrev pub reach : List ℕ → ℕ
