@@ -2,7 +2,7 @@
 // For each question `asked NUMBER PLACE COUNT LOOKS` and a line for each answer; `refused NUMBER PLACE` ends it.
 #![tactic(auto)]
 
-ghost use Rattle.std.specs.Prelude.{◌≡◌, true, ◌+◌, ◌≤◌, length, IfOk};
+ghost use Rattle.std.specs.Prelude.{◌≡◌, true, ◌+◌, ◌≤◌, length, IfOk, IfErr};
 ghost use Rattle.ruleset.specs.RuleSet.{is_rule_set};
 ghost use Rattle.table.specs.Lent.{lent};
 ghost use Rattle.printing.specs.Laid.{IsPrefixLen};
@@ -48,7 +48,8 @@ fn main(rt: HostRuntime) -> io::Result<()> {
 // Reads a length and as many bytes as it says, or what there is, to the front of `bytes`; how many came.
 fn read_next<R: Read>(input: &mut R, bytes: &mut [u8]) -> io::Result<usize>
     requires { 65537 ≤ length bytes.old }
-    ensures { IfOk result (λ n. IsPrefixLen n bytes.new) }
+    ensures counts { IfOk result (λ n. IsPrefixLen n bytes.new) }
+    ensures after_an_error { IfErr result (λ e. length bytes.new ≡ length bytes.old) }
 {
     let head = read_part(input, bytes, 0, 2)?;
     if head < 2 {
@@ -62,7 +63,8 @@ fn read_next<R: Read>(input: &mut R, bytes: &mut [u8]) -> io::Result<usize>
 // Reads into the bytes from `from` up to `to`, until they are full or the input ends; how many came.
 fn read_part<R: Read>(input: &mut R, bytes: &mut [u8], from: usize, to: usize) -> io::Result<usize>
     requires { (from ≤ to) × (to ≤ length bytes.old) }
-    ensures { IfOk result (λ n. from + n ≤ to) }
+    ensures counts { IfOk result (λ n. from + n ≤ to) }
+    ensures after_an_error { IfErr result (λ e. length bytes.new ≡ length bytes.old) }
 {
     read_full(input, &mut bytes[from..to])
 }

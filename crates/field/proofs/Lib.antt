@@ -2,5 +2,5 @@
 pub mod Writing
 pub mod Reading
 pub mod Back
--- What walks by hand want: of a loop, and of a lane that is lent on.
+-- What a walk of a loop by hand wants; none is left.
 pub mod Looping

@@ -6,7 +6,7 @@ ghost use Rattle.std.specs.Prelude.{◌≡◌};
 ghost use Rattle.field.specs.Fields.{field_at_lem};
 
 mod number;
-// A walk of who holds a reader cites these by their module.
+// Who holds a reader calls these by their module.
 pub mod reader;
 
 pub use number::{eight, put_eight, put_front, put_pair, put_two, two};

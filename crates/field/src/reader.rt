@@ -1,5 +1,4 @@
-// A reader stands on the lent bytes and remembers its place. The borrow checker covers no function over a struct that holds a
-// reference, so these are few and thin, each proved by hand, and the work is `field_at`'s. Who holds a reader is walked too.
+// A reader stands on the lent bytes and remembers its place. What it does is little; the work is `field_at`'s.
 ghost use Rattle.std.specs.Prelude.{◌≡◌};
 ghost use Rattle.field.specs.Fields.{field_at_lem};
 
