@@ -1,4 +1,4 @@
-//! Where the replay finds the static library that `rt staticlib trackvesper` writes.
+//! Where the replay finds the static library that `make target/staticlib/libtrackvesper.a` writes.
 
 fn main() {
     let here = std::env::var("CARGO_MANIFEST_DIR").unwrap();
