@@ -19,7 +19,7 @@ run:
 
 help:
 	@echo "make                  proves the two programs and runs them on the samples"
-	@echo "make test             the gate: proves and tries everything (the README says how long it takes)"
+	@echo "make test             the gate: proves and tries everything (docs/PORT.md says how long it takes)"
 	@echo "make fitting          the text form for people: target/fitting/release/fitting"
 	@echo "make host             the C hosts over the exported calls: target/host/"
 	@echo "make install PREFIX=  programs, text form, library and header (PREFIX is /usr/local if not given)"
@@ -27,7 +27,7 @@ help:
 	@echo "make soak MINUTES=    the proved library against the model, from SEED= on"
 	@echo "make fuzz MINUTES=    arbitrary bytes to the exported calls and the programs"
 	@echo "make peers FILES=     rapper and serdi beside the calls for N-Triples; installs them"
-	@echo "make clean            removes target/: what was proved is proved again"
+	@echo "make clean            removes target/: what rt keeps of its proofs is in crates/*/out"
 
 test:
 	.ci/run

@@ -1,5 +1,5 @@
 /* Trackvesper for C and C++: fitting books, what follows from them, questions about them; makers' lists as N-Triples.
- * Link with libtrackvesper.a (`rt staticlib trackvesper`, or `make install`).
+ * Link with libtrackvesper.a (`make target/staticlib/libtrackvesper.a` makes it, `make install` installs it).
  *
  * What holds for every call here:
  * - Any numbers and any bytes may be handed in. A call ends, answers, and is proved to answer and to leave in what was lent exactly

@@ -1,5 +1,6 @@
-//! Links the proved library that `rt staticlib trackvesper` writes at the top of the repository. It
-//! is made for x86-64: on another machine this crate is built without it, and has its types alone.
+//! Links the proved library that `make target/staticlib/libtrackvesper.a` makes at the top of the
+//! repository. It is made for x86-64: on another machine this crate is built without it, and has its
+//! types alone.
 
 use std::env;
 use std::path::Path;

@@ -1,4 +1,5 @@
-//! Links the static library that `rt staticlib trackvesper` writes at the top of the repository.
+//! Links the static library that `make target/staticlib/libtrackvesper.a` makes at the top of the
+//! repository.
 
 fn main() {
     let here = std::env::var("CARGO_MANIFEST_DIR").unwrap();
