@@ -14,7 +14,7 @@ fn main() {
         return;
     }
     if !Path::new(&folder).join("libtrackvesper.a").is_file() {
-        panic!("target/staticlib/libtrackvesper.a is not there: `rt staticlib trackvesper`, at the top of the repository, makes it");
+        panic!("target/staticlib/libtrackvesper.a is not there: `make target/staticlib/libtrackvesper.a`, at the top of the repository, makes it");
     }
     println!("cargo:rustc-cfg=proved");
     println!("cargo:proved=yes");
