@@ -9,9 +9,10 @@ import json
 import pathlib
 import re
 import sys
+import tempfile
 
 # Where the answers go whose goal has no name in names.json (the goal may be found without them now).
-LEFT = pathlib.Path('/tmp/port-left')
+LEFT = pathlib.Path(tempfile.gettempdir()) / 'port-left'
 
 IDENT = r"[^\s(){}.,;:\"\[\]\\`|⟨⟩]+"
 
