@@ -9,3 +9,4 @@ pub mod Judged
 pub mod Which
 pub mod AndExamplesHold
 pub mod SheetExamplesHold
+pub mod Known

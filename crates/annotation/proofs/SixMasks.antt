@@ -1,8 +1,8 @@
 -- The code's test: for each of six sheets, the combinations without it that are enough, moved up to those with it, are enough. That says exactly "larger is
 -- enough". Assumes nothing.
 use mathlib.Core.Path.{◌≡◌, refl, sym, ap, ◌∙◌}
-use mathlib.Core.Bool.{Bool, true, false, not, ◌&&◌, true≢false, and-eq-true_iff}
-use Prim.Native.Nat.{ℕ, zero, suc, ◌+◌, ◌/◌, ◌%◌, ◌^◌, ◌≤◌, ◌<◌}
+use mathlib.Core.Bool.{Bool, true, false, not, true≢false, and-eq-true_iff}
+use Prim.Native.Nat.{ℕ, zero, suc, ◌+◌, ◌/◌, ◌%◌, ◌^◌, ◌<◌}
 use native.Mathlib.Nat.{add_comm}
 use native.Mathlib.Omega.{arith}
 use lib.Dec.{eqb, ltb}
@@ -10,12 +10,11 @@ use lib.Pow.{shr-shr}
 use lib.Bits.{bit_and, bit_or, or_comm, or_disjoint}
 use borrow.Author.Tests.{eqb-true, eq-eqb, ltb-true, ltb-false, not-false}
 use Rattle.ground.specs.Lists.{all_below}
-use Rattle.ground.specs.Bits.{has, Subset}
+use Rattle.ground.specs.Bits.{has}
 use Rattle.ground.proofs.Below.{below_all}
 use Rattle.ground.proofs.Bitwise.{subset_or}
-use Rattle.ground.proofs.Bools.{same_test}
 use Rattle.ground.proofs.Masks.{has-and, has-high, has-power, has-bit, bit_has, among_and, and-among, apart-and}
-use Rattle.annotation.specs.Combinations.{Larger, is_larger}
+use Rattle.annotation.specs.Combinations.{is_larger}
 use Rattle.annotation.proofs.Combinations.{larger_holds, holds-larger, StepUp, larger_steps, steps-larger}
 
 -- two tests of one outcome

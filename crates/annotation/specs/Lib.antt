@@ -3,3 +3,4 @@ pub mod Algebra
 pub mod Combinations
 pub mod Kinds
 pub mod Examples
+pub mod Numbered

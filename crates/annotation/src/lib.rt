@@ -5,26 +5,41 @@
 ghost use Rattle.std.specs.Prelude.{◌≡◌, not, ◌+◌, ◌-◌, ◌≤◌, min, max, eqb};
 ghost use Rattle.std.specs.Int.Bits.{bit_and, bit_or};
 ghost use Rattle.term.specs.Refusal.{first};
+ghost use Rattle.term.specs.Refused.{number_in};
 ghost use Rattle.annotation.specs.Combinations.{is_larger};
-ghost use Rattle.annotation.specs.Kinds.{kind_checks, annotation_checks, algebra, Values};
+ghost use Rattle.annotation.specs.Kinds.{annotation_checks, algebra, Values};
+ghost use Rattle.annotation.specs.Numbered.{strict_or, kind_number, Numbers};
 
-pub const YEARS: u8 = 1;
-
-pub const DEGREE: u8 = 3;
-
-pub const STRICT: u8 = 4;
-
-pub const SHEETS: u8 = 5;
+use term::Refusal;
 
 pub const BOTTOM: u64 = 0;
 
 pub const FULL_DEGREE: u64 = 1000;
 
-pub const WRONG_KIND: u8 = 4;
+// The kinds of annotation.
+#[derive(Clone, Copy, Debug, PartialEq, Eq)]
+pub enum Kind {
+    Years,
+    Degree,
+    Strict,
+    Sheets,
+}
 
-pub const ILLEGAL_ANNOTATION: u8 = 10;
+impl TryFrom<u8> for Kind {
+    type Error = Refusal;
 
-pub const MISSES_LARGER: u8 = 28;
+    ghost try_from_gives = { Numbers };
+
+    fn try_from(number: u8) -> Result<Kind, Refusal> {
+        match number {
+            1 => Ok(Kind::Years),
+            3 => Ok(Kind::Degree),
+            4 => Ok(Kind::Strict),
+            5 => Ok(Kind::Sheets),
+            _ => Err(Refusal::WrongKind),
+        }
+    }
+}
 
 // The combinations without sheet 0, without sheet 1, ..: sheet i more is 2^i places up.
 const WITHOUT_0: u64 = 0x5555555555555555;
@@ -39,42 +54,82 @@ const WITHOUT_4: u64 = 0x0000FFFF0000FFFF;
 
 const WITHOUT_5: u64 = 0x00000000FFFFFFFF;
 
-// The refusal of a kind, 0 where there is such a kind.
-pub fn kind_refusal(kind: u8) -> u8
-    ensures { result ≡ (first (kind_checks kind 0)).number }
-{
-    if kind == YEARS {
-        return 0;
-    }
-    if kind < DEGREE {
-        return WRONG_KIND;
-    }
-    if SHEETS < kind {
-        return WRONG_KIND;
-    }
-    0
-}
-
-// The refusal of an annotation of a kind, 0 where it is legal.
-pub fn annotation_refusal(kind: u8, a: u64) -> u8
-    ensures { result ≡ (first (annotation_checks kind a 0)).number }
-{
-    if a == BOTTOM {
-        return ILLEGAL_ANNOTATION;
-    }
-    if kind == YEARS {
-        return 0;
-    }
-    if kind == SHEETS {
-        if keeps_larger(a) {
-            return 0;
+impl Kind {
+    // The kind that a number stands for where annotations are judged: a number that is no kind stands for strict degrees, as in the
+    // definitions (it is refused where a kind is checked).
+    pub fn or_strict(number: u8) -> Kind
+        ensures { kind_number result ≡ strict_or number }
+    {
+        match Kind::try_from(number) {
+            Ok(kind) => kind,
+            Err(_) => Kind::Strict,
         }
-        return MISSES_LARGER;
     }
-    if FULL_DEGREE < a {
-        return ILLEGAL_ANNOTATION;
+
+    // The number that books have for it.
+    pub fn number(self) -> u8
+        ensures { result ≡ kind_number self }
+    {
+        match self {
+            Kind::Years => 1,
+            Kind::Degree => 3,
+            Kind::Strict => 4,
+            Kind::Sheets => 5,
+        }
     }
-    0
+
+    // Whether an annotation of this kind is legal.
+    pub fn check(self, a: u64) -> Result<(), Refusal>
+        ensures { number_in result ≡ (first (annotation_checks (kind_number self) a 0)).number }
+    {
+        if a == BOTTOM {
+            return Err(Refusal::IllegalAnnotation);
+        }
+        match self {
+            Kind::Years => Ok(()),
+            Kind::Sheets => {
+                if keeps_larger(a) {
+                    return Ok(());
+                }
+                Err(Refusal::MissesLarger)
+            }
+            Kind::Degree | Kind::Strict => {
+                if FULL_DEGREE < a {
+                    return Err(Refusal::IllegalAnnotation);
+                }
+                Ok(())
+            }
+        }
+    }
+
+    // And: what holds where both hold.
+    pub fn meet(self, a: u64, b: u64) -> u64
+        requires { Values (kind_number self) a b }
+        ensures { result ≡ (algebra (kind_number self)).meet a b }
+    {
+        match self {
+            Kind::Years | Kind::Sheets => a & b,
+            Kind::Degree => a.min(b),
+            Kind::Strict => (a + b).saturating_sub(FULL_DEGREE),
+        }
+    }
+
+    // Join: what holds where either holds.
+    pub fn join(self, a: u64, b: u64) -> u64
+        ensures { result ≡ (algebra (kind_number self)).join a b }
+    {
+        match self {
+            Kind::Years | Kind::Sheets => a | b,
+            Kind::Degree | Kind::Strict => a.max(b),
+        }
+    }
+
+    // At most: joining a to b changes nothing.
+    pub fn at_most(self, a: u64, b: u64) -> bool
+        ensures { result ≡ eqb ((algebra (kind_number self)).join a b) b }
+    {
+        self.join(a, b) == b
+    }
 }
 
 // Whether every combination that is larger than one that is enough is enough too: one sheet more at a time.
@@ -108,74 +163,10 @@ fn misses(low: u64, up: u64) -> bool
     low & up != low
 }
 
-// And: what holds where both hold.
+// And, in the kind of a number; a number that is no kind stands for strict degrees, as in its definition.
 pub fn meet(kind: u8, a: u64, b: u64) -> u64
     requires { Values kind a b }
     ensures { result ≡ (algebra kind).meet a b }
 {
-    if kind == YEARS {
-        return in_both(a, b);
-    }
-    if kind == SHEETS {
-        return in_both(a, b);
-    }
-    if kind == DEGREE {
-        return smaller(a, b);
-    }
-    strict_meet(a, b)
-}
-
-fn in_both(a: u64, b: u64) -> u64
-    ensures { result ≡ bit_and a b }
-{
-    a & b
-}
-
-fn smaller(a: u64, b: u64) -> u64
-    ensures { result ≡ min a b }
-{
-    if a < b { a } else { b }
-}
-
-fn strict_meet(a: u64, b: u64) -> u64
-    requires { (a ≤ 1000) × (b ≤ 1000) }
-    ensures { result ≡ a + b - 1000 }
-{
-    if a + b < FULL_DEGREE {
-        BOTTOM
-    } else {
-        a + b - FULL_DEGREE
-    }
-}
-
-// Join: what holds where either holds.
-pub fn join(kind: u8, a: u64, b: u64) -> u64
-    ensures { result ≡ (algebra kind).join a b }
-{
-    if kind == YEARS {
-        return in_either(a, b);
-    }
-    if kind == SHEETS {
-        return in_either(a, b);
-    }
-    larger(a, b)
-}
-
-fn in_either(a: u64, b: u64) -> u64
-    ensures { result ≡ bit_or a b }
-{
-    a | b
-}
-
-fn larger(a: u64, b: u64) -> u64
-    ensures { result ≡ max a b }
-{
-    if a < b { b } else { a }
-}
-
-// At most: joining a to b changes nothing.
-pub fn at_most(kind: u8, a: u64, b: u64) -> bool
-    ensures { result ≡ eqb ((algebra kind).join a b) b }
-{
-    join(kind, a, b) == b
+    Kind::or_strict(kind).meet(a, b)
 }

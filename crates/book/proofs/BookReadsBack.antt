@@ -55,13 +55,13 @@ module _ (kind base rules : ℕ) (l : Lanes) (n : ℕ) (out out' : List ℕ) (pl
   wrote_done = rw number-zero refl
 
   sound : Sound kind l n
-  sound = write_sound kind base rules l n out (first (write_checks kind base rules l n (length out))) refl (omega (arith, number-zero))
+  sound = write_sound kind base rules l n out number-zero
 
   year : is_base kind base ≡ true
-  year = write_year kind base rules l n out (first (write_checks kind base rules l n (length out))) refl (omega (arith, number-zero))
+  year = write_year kind base rules l n out number-zero
 
   set : is_rule_set rules ≡ true
-  set = write_rules kind base rules l n out (first (write_checks kind base rules l n (length out))) refl (omega (arith, number-zero))
+  set = write_rules kind base rules l n out number-zero
 
   rows-sound : SoundRows kind (rows_of l n)
   rows-sound = sound-list sound

@@ -1,47 +1,31 @@
 -- A triple field's number and row, check by check as the code meets them; and that legal content is a legal row. Assumes nothing.
-use mathlib.Core.Path.{◌≡◌, refl, sym, ap, ◌∙◌}
-use mathlib.Core.Bool.{true, not}
+use mathlib.Core.Path.{◌≡◌, refl, ap, ◌∙◌}
+use mathlib.Core.Bool.{true, false, not}
 use mathlib.Core.List.{List, [], ◌∷◌, ◌++◌}
-use Prim.Native.Nat.{ℕ, ◌+◌, ◌≤◌, ◌<◌}
+use Prim.Native.Nat.{ℕ, ◌+◌, ◌<◌}
 use native.Mathlib.Omega.{arith}
+use lib.ListN.{length}
 use lib.Dec.{eqb}
-use borrow.Author.Tests.{eq-eqb, ne_eqb}
-use Rattle.term.specs.Refusal.{Check, refuse, done, first}
+use Rattle.std.specs.Prelude.{Result, Ok, Err}
+use Rattle.term.specs.Refusal.{Check, refuse, verdict, done, first}
 use Rattle.term.specs.Term.{term_checks, predicate_checks}
 use Rattle.term.specs.declared.refusal.Verdict.{Verdict}
-use Rattle.term.proofs.Firsts.{Numbered, AllAt, first_holds, first_passes, first-split, number-stops, number-passes, number-alike, numbered-append, at_append, alike_append}
+use Rattle.term.specs.declared.refusal.Refused.{Refused}
+use Rattle.term.specs.Refused.{verdict_of}
+use Rattle.term.proofs.Firsts.{Numbered, AllAt, first-none, first-split, number-alike, numbered-append, at_append}
 use Rattle.term.proofs.Sorts.{term-numbered, term-at, term-alike, predicate-numbered, predicate-at, predicate-alike, passes-term, passes-predicate}
 use Rattle.annotation.specs.Kinds.{annotation_checks}
 use Rattle.annotation.proofs.Judged.{annotation-numbered, annotation-at, annotation-alike, passes-annotation}
 use Rattle.table.specs.Rows.{Row}
 use Rattle.table.specs.Sound.{LegalRow}
-use Rattle.field.specs.Fields.{is_cut_lem, tag_at, size_at}
-use Rattle.field.proofs.Reading.{WholeField}
+use Rattle.field.specs.declared.Field.{Field}
+use Rattle.field.specs.declared.Field.TheVariants.{End, Cut, Whole}
+use Rattle.field.specs.Fields.{field_at_lem, is_cut_lem, tag_at, size_at, behind}
+use Rattle.field.proofs.Reading.{WholeField, is-end, is_cut}
 use Rattle.book.specs.declared.content.Content.{Content}
 use Rattle.book.specs.Format.{triple_length, content_checks, field_checks, row_in}
-use Rattle.book.specs.Inner.{TripleContent, ContentOf}
-
--- subject, predicate, object, annotation
-module _ (kind : ℕ) (r : Row) (n : ℕ) (e : n ≡ (first (term_checks r.s 0)).number) where
-  pub content_by_subject : 0 < n → n ≡ (first (content_checks kind r 0)).number
-  content_by_subject h = number-stops n (term_checks r.s 0) _ e h
-
-  module _ (z : n ≤ 0) (n₂ : ℕ) (e₂ : n₂ ≡ (first (predicate_checks r.p 0)).number) where
-    past_subject : (k : ℕ) → k ≡ (first (predicate_checks r.p 0 ++ (term_checks r.o 0 ++ annotation_checks kind r.a 0))).number → k ≡ (first (content_checks kind r 0)).number
-    past_subject k ek = number-passes n k (term_checks r.s 0) _ (term-numbered r.s 0) e z ek
-
-    pub content_by_predicate : 0 < n₂ → n₂ ≡ (first (content_checks kind r 0)).number
-    content_by_predicate h = past_subject n₂ (number-stops n₂ (predicate_checks r.p 0) _ e₂ h)
-
-    module _ (z₂ : n₂ ≤ 0) (n₃ : ℕ) (e₃ : n₃ ≡ (first (term_checks r.o 0)).number) where
-      past_predicate : (k : ℕ) → k ≡ (first (term_checks r.o 0 ++ annotation_checks kind r.a 0)).number → k ≡ (first (content_checks kind r 0)).number
-      past_predicate k ek = past_subject k (number-passes n₂ k (predicate_checks r.p 0) _ (predicate-numbered r.p 0) e₂ z₂ ek)
-
-      pub content_by_object : 0 < n₃ → n₃ ≡ (first (content_checks kind r 0)).number
-      content_by_object h = past_predicate n₃ (number-stops n₃ (term_checks r.o 0) _ e₃ h)
-
-      pub content_by_annotation : n₃ ≤ 0 → (n₄ : ℕ) → n₄ ≡ (first (annotation_checks kind r.a 0)).number → n₄ ≡ (first (content_checks kind r 0)).number
-      content_by_annotation z₃ n₄ e₄ = past_predicate n₄ (number-passes n₃ n₄ (term_checks r.o 0) _ (term-numbered r.o 0) e₃ z₃ e₄)
+use Rattle.book.specs.Inner.{RefusedBy, TripleContent, ContentOf}
+use Rattle.book.proofs.Checked.{Past, nothing_past, refused_by, passed, stopped, passed_all, stopped_at}
 
 -- the checks behind the subject's, and behind the predicate's
 abbrev from_predicate : ℕ → Row → ℕ → List Check
@@ -62,13 +46,57 @@ content_at kind r p =
     (at_append p (predicate_checks r.p p) (from_object kind r p) (predicate-at r.p p)
     (at_append p (term_checks r.o p) (annotation_checks kind r.a p) (term-at r.o p) (annotation-at kind r.a p)))
 
-content_anywhere : (kind : ℕ) (r : Row) (p : ℕ) → (first (content_checks kind r 0)).number ≡ (first (content_checks kind r p)).number
-content_anywhere kind r p =
-    number-alike (content_checks kind r 0) (content_checks kind r p)
-    (alike_append (term_checks r.s 0) (term_checks r.s p) (from_predicate kind r 0) (from_predicate kind r p) (term-alike r.s 0 p)
-    (alike_append (predicate_checks r.p 0) (predicate_checks r.p p) (from_object kind r 0) (from_object kind r p) (predicate-alike r.p 0 p)
-    (alike_append (term_checks r.o 0) (term_checks r.o p) (annotation_checks kind r.a 0) (annotation_checks kind r.a p) (term-alike r.o 0 p)
-    (annotation-alike kind r.a 0 p))))
+-- subject, predicate, object, annotation
+module _ (kind : ℕ) (b : List ℕ) (at : ℕ) where
+  abbrev r : Row
+  r = row_in b at
+
+  abbrev checks : List Check
+  checks = content_checks kind r at
+
+  module _ (s : ℕ) (es : s ≡ r.s) (n : ℕ) (e : n ≡ (first (term_checks s 0)).number) where
+    subject : n ≡ (first (term_checks r.s at)).number
+    subject = rw es at e ∙ number-alike (term_checks r.s 0) (term_checks r.s at) (term-alike r.s 0 at)
+
+    pub content_by_subject : 0 < n → (v : Verdict) → v ≡ verdict n at → RefusedBy checks v
+    content_by_subject q v ev = stopped_at checks (term_checks r.s at) _ n subject (nothing_past checks) at (term-at r.s at) q v ev
+
+    module _ (z : n ≡ 0) (p : ℕ) (ep : p ≡ r.p) (m : ℕ) (em : m ≡ (first (predicate_checks p 0)).number) where
+      past_subject : Past checks (from_predicate kind r at)
+      past_subject = passed_all checks (term_checks r.s at) _ n subject (nothing_past checks) (term-numbered r.s at) z
+
+      predicate : m ≡ (first (predicate_checks r.p at)).number
+      predicate = rw ep at em ∙ number-alike (predicate_checks r.p 0) (predicate_checks r.p at) (predicate-alike r.p 0 at)
+
+      pub content_by_predicate : 0 < m → (v : Verdict) → v ≡ verdict m at → RefusedBy checks v
+      content_by_predicate q v ev = stopped_at checks (predicate_checks r.p at) _ m predicate past_subject at (predicate-at r.p at) q v ev
+
+      module _ (zm : m ≡ 0) (o : ℕ) (eo : o ≡ r.o) (k : ℕ) (ek : k ≡ (first (term_checks o 0)).number) where
+        past_predicate : Past checks (from_object kind r at)
+        past_predicate = passed_all checks (predicate_checks r.p at) _ m predicate past_subject (predicate-numbered r.p at) zm
+
+        object : k ≡ (first (term_checks r.o at)).number
+        object = rw eo at ek ∙ number-alike (term_checks r.o 0) (term_checks r.o at) (term-alike r.o 0 at)
+
+        pub content_by_object : 0 < k → (v : Verdict) → v ≡ verdict k at → RefusedBy checks v
+        content_by_object q v ev = stopped_at checks (term_checks r.o at) _ k object past_predicate at (term-at r.o at) q v ev
+
+        module _ (zk : k ≡ 0) (a : ℕ) (ea : a ≡ r.a) (j : ℕ) (ej : j ≡ (first (annotation_checks kind a 0)).number) where
+          past_object : Past checks (annotation_checks kind r.a at ++ [])
+          past_object = passed_all checks (term_checks r.o at) _ k object past_predicate (term-numbered r.o at) zk
+
+          annotated : j ≡ (first (annotation_checks kind r.a at)).number
+          annotated = rw ea at ej ∙ number-alike (annotation_checks kind r.a 0) (annotation_checks kind r.a at) (annotation-alike kind r.a 0 at)
+
+          pub content_by_annotation : 0 < j → (v : Verdict) → v ≡ verdict j at → RefusedBy checks v
+          content_by_annotation q v ev = stopped_at checks (annotation_checks kind r.a at) [] j annotated past_object at (annotation-at kind r.a at) q v ev
+
+          pub content_said : j ≡ 0 → (next : ℕ) → TripleContent kind b at next (Ok (record { row = record { s = s; p = p; o = o; a = a }; next = next }))
+          content_said zj next = record {
+            passes = (passed_all checks (annotation_checks kind r.a at) [] j annotated past_object (annotation-numbered kind r.a at) zj).is ∙ first-none;
+            row_is = rw (es, ep, eo, ea) refl;
+            next_is = refl;
+          }
 
 pub content_legal : (kind : ℕ) (r : Row) (p : ℕ) → first (content_checks kind r p) ≡ done → LegalRow kind r
 content_legal kind r p e =
@@ -86,51 +114,51 @@ field_at kind b at = (refl, (refl, (refl, (refl, content_at kind (row_in b at) a
 
 -- cut, second head, tag, length, content
 module _ (kind : ℕ) (b : List ℕ) (at : ℕ) where
-  no_content : (c : Content) → 0 < c.number → c.number ≡ (first (field_checks kind b at)).number → ContentOf kind b at c
-  no_content c p e = record { number_is = e; row_is = λ z. absurd (omega arith); next_is = λ z. absurd (omega arith) }
+  abbrev fields : List Check
+  fields = field_checks kind b at
 
-  pub field_by_cut : (c : Content) → c.number ≡ 1 → is_cut_lem b at ≡ true → ContentOf kind b at c
-  field_by_cut c e q = no_content c (omega arith) (e ∙ ap (λ (v : Verdict). v.number) (sym (first_holds _ 1 at _ q)))
+  cut_unless_whole : at < length b → (f : Field) → f ≡ field_at_lem b at → ((tag size : ℕ) → f ≡ Whole tag size → ⊥) → is_cut_lem b at ≡ true
+  cut_unless_whole some End e n = absurd (omega (arith, is-end b at e))
+  cut_unless_whole some Cut e n = (is_cut b at e).1
+  cut_unless_whole some (Whole tag size) e n = absurd (n tag size refl)
 
-  module _ (tag size : ℕ) (w : WholeField b at tag size) where
-    past_cut : first (field_checks kind b at)
-        ≡ first (refuse (eqb (tag_at b at) 1) 2 at ∷ refuse (not (eqb (tag_at b at) 3)) 6 at ∷ refuse (not (eqb (size_at b at) triple_length)) 7 at ∷ content_checks kind (row_in b at) at)
-    past_cut = first_passes _ 1 at _ w.not-cut
+  pub field_by_cut : at < length b → (f : Field) → f ≡ field_at_lem b at → ((tag size : ℕ) → f ≡ Whole tag size → ⊥) → RefusedBy fields (verdict 1 at)
+  field_by_cut some f e n = stopped fields _ 1 at _ (nothing_past fields) (cut_unless_whole some f e n) (omega arith) _ refl
 
-    pub field_by_head : (c : Content) → c.number ≡ 2 → tag ≡ 1 → ContentOf kind b at c
-    field_by_head c e q =
-        no_content c (omega arith) (e ∙ ap (λ (v : Verdict). v.number) (sym (past_cut ∙ first_holds _ 2 at _ (rw (← w.tag_is) (eq-eqb tag 1 q)))))
+  -- what the content says is what the field says
+  field_behind : Past fields (content_checks kind (row_in b at) at) → (next : ℕ) → next ≡ behind b at → (r : Result Content Refused) → TripleContent kind b at next r → ContentOf kind b at r
+  field_behind h next en (Ok c) s = record { passes = h.is ∙ s.passes; row_is = s.row_is; next_is = s.next_is ∙ en }
+  field_behind h next en (Err e) s = refused_by fields _ h (verdict_of e) s
 
-    module _ (no : tag ≡ 1 → ⊥) where
-      past_head : first (field_checks kind b at)
-          ≡ first (refuse (not (eqb (tag_at b at) 3)) 6 at ∷ refuse (not (eqb (size_at b at) triple_length)) 7 at ∷ content_checks kind (row_in b at) at)
-      past_head = past_cut ∙ first_passes _ 2 at _ (rw (← w.tag_is) (ne_eqb tag 1 no))
+  module _ (tag size : ℕ) (f : WholeField b at tag size) where
+    past_cut : Past fields (refuse (eqb tag 1) 2 at ∷ refuse (not (eqb tag 3)) 6 at ∷ refuse (not (eqb size triple_length)) 7 at ∷ content_checks kind (row_in b at) at)
+    past_cut = rw (f.tag_is, f.size_is) (passed fields _ 1 at _ (nothing_past fields) f.not-cut)
 
-      pub field_by_tag : (c : Content) → c.number ≡ 6 → (tag ≡ 3 → ⊥) → ContentOf kind b at c
-      field_by_tag c e q =
-          no_content c (omega arith) (e ∙ ap (λ (v : Verdict). v.number) (sym (past_head ∙ first_holds _ 6 at _ (rw (← w.tag_is, ne_eqb tag 3 q) refl))))
+    pub field_by_head : eqb tag 1 ≡ true → (v : Verdict) → v ≡ verdict 2 at → RefusedBy fields v
+    field_by_head q v ev = stopped fields _ 2 at _ past_cut q (omega arith) v ev
 
-      module _ (is-triple : tag ≡ 3) where
-        past_tag : first (field_checks kind b at) ≡ first (refuse (not (eqb (size_at b at) triple_length)) 7 at ∷ content_checks kind (row_in b at) at)
-        past_tag = past_head ∙ first_passes _ 6 at _ (rw (← w.tag_is, eq-eqb tag 3 is-triple) refl)
+    module _ (no : eqb tag 1 ≡ false) where
+      past_head : Past fields (refuse (not (eqb tag 3)) 6 at ∷ refuse (not (eqb size triple_length)) 7 at ∷ content_checks kind (row_in b at) at)
+      past_head = passed fields _ 2 at _ past_cut no
 
-        pub field_by_size : (c : Content) → c.number ≡ 7 → (size ≡ triple_length → ⊥) → ContentOf kind b at c
-        field_by_size c e q =
-            no_content c (omega arith) (e ∙ ap (λ (v : Verdict). v.number) (sym (past_tag ∙ first_holds _ 7 at _ (rw (← w.size_is, ne_eqb size triple_length q) refl))))
+      pub field_by_tag : not (eqb tag 3) ≡ true → (v : Verdict) → v ≡ verdict 6 at → RefusedBy fields v
+      field_by_tag q v ev = stopped fields _ 6 at _ past_head q (omega arith) v ev
 
-        pub field_by_content : (c : Content) → size ≡ triple_length → TripleContent kind b at (at + 3 + size) c → ContentOf kind b at c
-        field_by_content c es f = record {
-          number_is = f.number_is ∙ content_anywhere kind (row_in b at) at
-              ∙ ap (λ (v : Verdict). v.number) (sym (past_tag ∙ first_passes _ 7 at _ (rw (← w.size_is, eq-eqb size triple_length es) refl)));
-          row_is = λ z. f.row_is;
-          next_is = λ z. f.next_is ∙ ap (λ (k : ℕ). at + 3 + k) w.size_is;
-        }
+      module _ (is-triple : not (eqb tag 3) ≡ false) where
+        past_tag : Past fields (refuse (not (eqb size triple_length)) 7 at ∷ content_checks kind (row_in b at) at)
+        past_tag = passed fields _ 6 at _ past_head is-triple
 
-  -- a field that passes has legal content
-  pub field_legal : first (field_checks kind b at) ≡ done → LegalRow kind (row_in b at)
-  field_legal e =
-      let e1 = first-split 1 at (is_cut_lem b at) _ (omega arith) e in
-      let e2 = first-split 2 at (eqb (tag_at b at) 1) _ (omega arith) e1.1 in
-      let e6 = first-split 6 at (not (eqb (tag_at b at) 3)) _ (omega arith) e2.1 in
-      let e7 = first-split 7 at (not (eqb (size_at b at) triple_length)) _ (omega arith) e6.1 in
-      content_legal kind (row_in b at) at e7.1
+        pub field_by_size : not (eqb size triple_length) ≡ true → (v : Verdict) → v ≡ verdict 7 at → RefusedBy fields v
+        field_by_size q v ev = stopped fields _ 7 at _ past_tag q (omega arith) v ev
+
+        pub field_by_content : not (eqb size triple_length) ≡ false → (r : Result Content Refused) → TripleContent kind b at (at + 3 + size) r → ContentOf kind b at r
+        field_by_content q r s = field_behind (passed fields _ 7 at _ past_tag q) (at + 3 + size) (ap (λ (k : ℕ). at + 3 + k) f.size_is) r s
+
+-- a field that passes has legal content
+pub field_legal : (kind : ℕ) (b : List ℕ) (at : ℕ) → first (field_checks kind b at) ≡ done → LegalRow kind (row_in b at)
+field_legal kind b at e =
+    let e1 = first-split 1 at (is_cut_lem b at) _ (omega arith) e in
+    let e2 = first-split 2 at (eqb (tag_at b at) 1) _ (omega arith) e1.1 in
+    let e6 = first-split 6 at (not (eqb (tag_at b at) 3)) _ (omega arith) e2.1 in
+    let e7 = first-split 7 at (not (eqb (size_at b at) triple_length)) _ (omega arith) e6.1 in
+    content_legal kind (row_in b at) at e7.1

@@ -1,4 +1,5 @@
 -- Laws that belong to no one function, bottom to top.
+pub mod Checked
 pub mod Heads
 pub mod Contents
 pub mod FieldByField

@@ -6,42 +6,41 @@ use Prim.Native.Nat.{ℕ, ◌≤◌, ◌<◌}
 use native.Mathlib.Omega.{arith}
 use lib.ListN.{length, length-replicate}
 use lib.Dec.{eqb, ltb}
-use borrow.Author.Tests.{eq-eqb, ne_eqb, lt-ltb, le-ltb}
+use borrow.Author.Tests.{ne_eqb, lt-ltb, le-ltb}
 use Rattle.ground.proofs.Tab.{tab-length}
 use Rattle.term.specs.Refusal.{verdict, done, first}
-use Rattle.term.proofs.Firsts.{first_holds, first_passes, first-none, first-place, first_done}
+use Rattle.term.specs.declared.refusal.Verdict.{Verdict}
+use Rattle.annotation.specs.Numbered.{kind_number}
+use Rattle.ruleset.specs.Numbered.{set_number}
+use Rattle.term.proofs.Firsts.{first_holds, first_passes, first-none}
 use Rattle.table.specs.Rows.{Row, Lanes, zeroed, filled}
 use Rattle.table.specs.Checks.{is_unfit}
 use Rattle.table.proofs.Soundness.{fit_of, sound-as_long}
 use Rattle.table.proofs.Laid.{zero_row, zeroed-alike}
 use Rattle.book.specs.declared.content.Head.{Head}
-use Rattle.book.specs.declared.fields.FieldsDone.{FieldsDone}
 use Rattle.book.specs.declared.ReadDone.{ReadDone}
 use Rattle.book.specs.Format.{head_checks}
 use Rattle.book.specs.Reading.{Read, refused, fields_of, read_book, longest_book, lend_checks, reading, Reading}
-use Rattle.book.specs.Inner.{HeadOf, Fresh, FieldsRead, refused_done, ReadInto}
-use Rattle.book.proofs.ReadsSound.{head_numbered, head_at, legal-head}
+use Rattle.book.specs.Inner.{RefusedBy, HeadSaid, Fresh, FieldsDone, FieldsRefused, refused_done, ReadInto}
+use Rattle.book.proofs.ReadsSound.{legal-head}
 
 -- what is refused is said, and nothing else
 pub refused-into : (l : Lanes) (number place : ℕ) (d : ReadDone) → d ≡ refused_done number place → ReadInto (refused (verdict number place)) l (zeroed l) d
 refused-into l number place d e = rw e (record { verdict_is = refl; kind_is = refl; base_is = refl; rules_is = refl; count_is = refl; lanes_are = refl })
 
 -- the fields behind the head
-module _ (kind base rules : ℕ) (b : List ℕ) (start : ℕ) (l : Lanes) (fresh : Fresh kind l) (m : Lanes) (s : FieldsDone) (f : FieldsRead kind b start l m s) where
-  same-zeros : zeroed m ≡ zeroed l
-  same-zeros = zeroed-alike (sound-as_long fresh.sound f.sound f.as_long)
-
+module _ (kind base rules : ℕ) (b : List ℕ) (start : ℕ) (l : Lanes) (fresh : Fresh kind l) (m : Lanes) where
   abbrev Body : Lanes → ReadDone → Type 0
   Body = ReadInto (fields_of kind base rules b (length l.subj) start) l
 
-  pub body_refused : 0 < s.number → (m' : Lanes) (d : ReadDone) → m' ≡ zeroed m → d ≡ refused_done s.number s.place → Body m' d
-  body_refused h m' d em e = rw (f.meaning base rules, ne_eqb s.number 0 (λ z. omega arith), em, same-zeros) (refused-into l s.number s.place d e)
+  pub body_refused : (v : Verdict) → FieldsRefused kind b start l m v → (m' : Lanes) (d : ReadDone) → m' ≡ zeroed m → d ≡ refused_done v.number v.place → Body m' d
+  body_refused v f m' d em e =
+      let same-zeros : zeroed m ≡ zeroed l = zeroed-alike (sound-as_long fresh.sound f.sound.1 f.as_long) in
+      rw (f.meaning base rules, em, same-zeros) (refused-into l v.number v.place d e)
 
-  pub body_done : s.number ≤ 0 → Body m (record { number = 0; place = 0; kind = kind; base = base; rules = rules; count = s.count })
-  body_done h =
-      let z : s.number ≡ 0 = omega arith in
-      rw (f.meaning base rules, eq-eqb s.number 0 z)
-      (record { verdict_is = refl; kind_is = refl; base_is = refl; rules_is = refl; count_is = sym (tab-length s.count _); lanes_are = f.filled_is z })
+  pub body_done : (count : ℕ) → FieldsDone kind b start l m count → Body m (record { number = 0; place = 0; kind = kind; base = base; rules = rules; count = count })
+  body_done count f =
+      rw (f.meaning base rules) (record { verdict_is = refl; kind_is = refl; base_is = refl; rules_is = refl; count_is = sym (tab-length count _); lanes_are = f.filled_is })
 
 -- zeros laid over zeros
 filled-again : (R : List Row) (l : Lanes) → filled R (zeroed l) ≡ filled R l
@@ -88,54 +87,44 @@ module _ (b : List ℕ) (l : Lanes) where
           let t : eqb (first (lend_checks b l)).number 0 ≡ true = rw lent refl in
           as_read (read_book b (length l.subj)) (rw lent refl) m d r.verdict_is r.kind_is r.base_is r.rules_is r.count_is (r.lanes_are ∙ rw t refl)
 
-      module _ (h : Head) (e : HeadOf b h) where
-        pub read-headless : (m : Lanes) (d : ReadDone) → 0 < h.number → m ≡ zeroed l → d ≡ refused_done h.number 0 → ReadDoneOf b l m d
+      pub read-headless : (v : Verdict) → RefusedBy (head_checks b) v → (m : Lanes) (d : ReadDone) → m ≡ zeroed l → d ≡ refused_done v.number v.place → ReadDoneOf b l m d
+      unfolding read_book
+      read-headless v e m d em ed = lent-read m d (rw (← e.verdict_is, ne_eqb v.number 0 (λ z. omega (arith, e.some)), em) (refused-into l v.number v.place d ed))
+
+      module _ (h : Head) (e : HeadSaid (head_checks b) b h) where
+        pub read-fresh : Fresh (kind_number h.kind) (zeroed l)
+        read-fresh =
+            let k = legal-head b (ap (λ (v : Verdict). v.number) e.passes) in
+            let ek = e.kind_is in
+            let fit = fit_of (kind_number h.kind) l 0 fits in
+            let es = length-replicate {A = ℕ} (length l.subj) 0 in
+            record {
+              sound = record {
+                kind_known = rw ek k.kind_known;
+                pred_long = length-replicate {A = ℕ} (length l.pred) 0 ∙ fit.pred_long ∙ sym es;
+                obj_long = length-replicate {A = ℕ} (length l.obj) 0 ∙ fit.obj_long ∙ sym es;
+                ann_long = length-replicate {A = ℕ} (length l.ann) 0 ∙ fit.ann_long ∙ sym es;
+                long = omega (arith, es, fit.long);
+                within = omega arith;
+                legal = λ i q. absurd (omega arith);
+                ascending = λ i q. absurd (omega arith);
+              };
+              zero = zero_row l;
+            }
+
+        pub read_behind : (k m : Lanes) (d : ReadDone) → k ≡ zeroed l → ReadInto (fields_of (kind_number h.kind) h.base (set_number h.rules) b (length k.subj) h.next) k m d → ReadDoneOf b l m d
         unfolding read_book
-        read-headless m d q em ed =
-            let v : first (head_checks b) ≡ verdict h.number 0
-            = first-place 0 (head_checks b) (head_at b) (rw (← e.number_is) q) ∙ ap (λ (x : ℕ). verdict x 0) (sym e.number_is) in
-            lent-read m d (rw (v, ne_eqb h.number 0 (λ z. omega arith), em) (refused-into l h.number 0 d ed))
-
-        module _ (z : h.number ≤ 0) where
-          none : h.number ≡ 0
-          none = omega arith
-
-          passes : first (head_checks b) ≡ done
-          passes = first_done (head_checks b) (head_numbered b) (sym e.number_is ∙ none)
-
-          pub read-fresh : Fresh h.kind (zeroed l)
-          read-fresh =
-              let k = legal-head b (sym e.number_is ∙ none) in
-              let ek = e.kind_is none in
-              let fit = fit_of h.kind l 0 fits in
-              let es = length-replicate {A = ℕ} (length l.subj) 0 in
-              record {
-                sound = record {
-                  kind_known = rw ek k.kind_known;
-                  pred_long = length-replicate {A = ℕ} (length l.pred) 0 ∙ fit.pred_long ∙ sym es;
-                  obj_long = length-replicate {A = ℕ} (length l.obj) 0 ∙ fit.obj_long ∙ sym es;
-                  ann_long = length-replicate {A = ℕ} (length l.ann) 0 ∙ fit.ann_long ∙ sym es;
-                  long = omega (arith, es, fit.long);
-                  within = omega arith;
-                  legal = λ i q. absurd (omega arith);
-                  ascending = λ i q. absurd (omega arith);
-                };
-                zero = zero_row l;
-              }
-
-          pub read_behind : (k m : Lanes) (d : ReadDone) → k ≡ zeroed l → ReadInto (fields_of h.kind h.base h.rules b (length k.subj) h.next) k m d → ReadDoneOf b l m d
-          unfolding read_book
-          read_behind k m d ek r =
-              let z : ReadInto (fields_of h.kind h.base h.rules b (length (zeroed l).subj) h.next) (zeroed l) m d = rw ek at r in
-              let w : read_book b (length l.subj) ≡ fields_of h.kind h.base h.rules b (length (zeroed l).subj) h.next
-              = rw (passes, e.kind_is none, e.base_is none, e.rules_is none, e.next_is none, length-replicate {A = ℕ} (length l.subj) 0) refl in
-              lent-read m d
-              (rw w
-              (record {
-                verdict_is = z.verdict_is;
-                kind_is = z.kind_is;
-                base_is = z.base_is;
-                rules_is = z.rules_is;
-                count_is = z.count_is;
-                lanes_are = z.lanes_are ∙ filled-again (fields_of h.kind h.base h.rules b (length (zeroed l).subj) h.next).rows l;
-              }))
+        read_behind k m d ek r =
+            let z : ReadInto (fields_of (kind_number h.kind) h.base (set_number h.rules) b (length (zeroed l).subj) h.next) (zeroed l) m d = rw ek at r in
+            let w : read_book b (length l.subj) ≡ fields_of (kind_number h.kind) h.base (set_number h.rules) b (length (zeroed l).subj) h.next
+            = rw (e.passes, e.kind_is, e.base_is, e.rules_is, e.next_is, length-replicate {A = ℕ} (length l.subj) 0) refl in
+            lent-read m d
+            (rw w
+            (record {
+              verdict_is = z.verdict_is;
+              kind_is = z.kind_is;
+              base_is = z.base_is;
+              rules_is = z.rules_is;
+              count_is = z.count_is;
+              lanes_are = z.lanes_are ∙ filled-again (fields_of (kind_number h.kind) h.base (set_number h.rules) b (length (zeroed l).subj) h.next).rows l;
+            }))

@@ -9,9 +9,9 @@ use lib.ListN.{length, set, take, drop, length-append, take-append-drop}
 use lib.Dec.{eqb, ltb}
 use borrow.Author.Tests.{eq-eqb, ne_eqb, ltb-false, not-false}
 use Rattle.ground.specs.Lists.{tab}
-use Rattle.term.specs.Refusal.{Check, refuse, verdict, first}
+use Rattle.term.specs.Refusal.{Check, refuse, verdict, done, first}
 use Rattle.term.specs.declared.refusal.Verdict.{Verdict}
-use Rattle.term.proofs.Firsts.{Numbered, numbered-append, first_stops, first-clear, first-left, first-split, first-place, first_done, first_holds, first_passes}
+use Rattle.term.proofs.Firsts.{Numbered, first-none, first_stops, first-clear, first-left, first-split, first_done}
 use Rattle.ruleset.specs.RuleSet.{is_rule_set, rule_set_checks}
 use Rattle.ruleset.proofs.Judged.{rule_set_numbered, rule_set_at, passes-rule_set}
 use Rattle.annotation.specs.Kinds.{kind_checks}
@@ -24,6 +24,8 @@ use Rattle.table.proofs.Soundness.{passes-sound}
 use Rattle.field.specs.Numbers.{written, two_bytes, eight_bytes}
 use Rattle.field.proofs.Writing.{length_two, length-eight, written_both, written_one}
 use Rattle.book.specs.Format.{second_edition, head_length_lem, edition_for, triple_length, head_size_lem, triple_size, is_base, base_checks, rules_bytes, head_bytes, field_bytes, fields_bytes, book_bytes}
+use Rattle.book.specs.Inner.{RefusedBy}
+use Rattle.book.proofs.Checked.{Past, nothing_past, passed, stopped, passed_all, stopped_at}
 use Rattle.book.proofs.Heads.{length_from, length_to}
 use Rattle.book.specs.Writing.{book_length_lem, write_checks, write_done_lem, Writing}
 
@@ -179,62 +181,61 @@ number-left cs ds h e = ap (λ (x : Verdict). x.number) (sym (first-clear cs ds 
 
 -- refused, or done
 module _ (kind base rules : ℕ) (l : Lanes) (n room : ℕ) where
+  abbrev all : List Check
+  all = write_checks kind base rules l n room
+
   module _ (k : ℕ) (ek : k ≡ (first (kind_checks kind 0)).number) where
-    pub write_by_kind : 0 < k → verdict k 0 ≡ first (write_checks kind base rules l n room)
-    write_by_kind h =
-        sym (first_stops (kind_checks kind 0) _ (rw (← ek) h) ∙ first-place 0 (kind_checks kind 0) (kind_at kind 0) (rw (← ek) h) ∙ ap (λ (x : ℕ). verdict x 0) (sym ek))
+    pub write_by_kind : 0 < k → (v : Verdict) → v ≡ verdict k 0 → RefusedBy all v
+    write_by_kind h v ev = stopped_at all (kind_checks kind 0) _ k ek (nothing_past all) 0 (kind_at kind 0) h v ev
 
-    module _ (zk : k ≤ 0) (q : ℕ) (eq : q ≡ (first (base_checks kind base 0)).number) where
-      past_kind : first (write_checks kind base rules l n room)
-          ≡ first (base_checks kind base 0 ++ (rule_set_checks rules 0 ++ (table_checks kind l n ++ (refuse (ltb room (book_length_lem rules n)) 12 0 ∷ []))))
-      past_kind = first-clear (kind_checks kind 0) _ (kind-numbered kind 0) (sym ek ∙ omega arith)
+    module _ (zk : k ≡ 0) (w : Bool) (ew : w ≡ is_base kind base) where
+      past_kind : Past all (base_checks kind base 0 ++ (rule_set_checks rules 0 ++ (table_checks kind l n ++ (refuse (ltb room (book_length_lem rules n)) 12 0 ∷ []))))
+      past_kind = passed_all all (kind_checks kind 0) _ k ek (nothing_past all) (kind-numbered kind 0) zk
 
-      pub write_by_base : 0 < q → verdict q 0 ≡ first (write_checks kind base rules l n room)
-      write_by_base h =
-          sym (past_kind ∙ first_stops (base_checks kind base 0) _ (rw (← eq) h) ∙ first-place 0 (base_checks kind base 0) (refl, tt) (rw (← eq) h) ∙ ap (λ (x : ℕ). verdict x 0) (sym eq))
+      pub write_by_base : not w ≡ true → (v : Verdict) → v ≡ verdict 5 0 → RefusedBy all v
+      write_by_base h v ev = stopped all _ 5 0 _ past_kind (ap not (sym ew) ∙ h) (omega arith) v ev
 
-      module _ (zq : q ≤ 0) (u : ℕ) (eu : u ≡ (first (rule_set_checks rules 0)).number) where
-        past_base : first (write_checks kind base rules l n room)
-            ≡ first (rule_set_checks rules 0 ++ (table_checks kind l n ++ (refuse (ltb room (book_length_lem rules n)) 12 0 ∷ [])))
-        past_base = past_kind ∙ first-clear (base_checks kind base 0) _ (omega arith, tt) (sym eq ∙ omega arith)
+      module _ (q : not w ≡ false) (u : ℕ) (eu : u ≡ (first (rule_set_checks rules 0)).number) where
+        past_base : Past all (rule_set_checks rules 0 ++ (table_checks kind l n ++ (refuse (ltb room (book_length_lem rules n)) 12 0 ∷ [])))
+        past_base = passed all _ 5 0 _ past_kind (ap not (sym ew) ∙ q)
 
-        pub write_by_rules : 0 < u → verdict u 0 ≡ first (write_checks kind base rules l n room)
-        write_by_rules h =
-            sym (past_base ∙ first_stops (rule_set_checks rules 0) _ (rw (← eu) h) ∙ first-place 0 (rule_set_checks rules 0) (rule_set_at rules 0) (rw (← eu) h) ∙ ap (λ (x : ℕ). verdict x 0) (sym eu))
+        pub write_by_rules : 0 < u → (v : Verdict) → v ≡ verdict u 0 → RefusedBy all v
+        write_by_rules h v ev = stopped_at all (rule_set_checks rules 0) _ u eu past_base 0 (rule_set_at rules 0) h v ev
 
-        module _ (zu : u ≤ 0) (v : Verdict) (ev : v ≡ first (table_checks kind l n)) where
-          past_rules : first (write_checks kind base rules l n room) ≡ first (table_checks kind l n ++ (refuse (ltb room (book_length_lem rules n)) 12 0 ∷ []))
-          past_rules = past_base ∙ first-clear (rule_set_checks rules 0) _ (rule_set_numbered rules 0) (sym eu ∙ omega arith)
+        module _ (zu : u ≡ 0) (t : Verdict) (et : t ≡ first (table_checks kind l n)) where
+          past_rules : Past all (table_checks kind l n ++ (refuse (ltb room (book_length_lem rules n)) 12 0 ∷ []))
+          past_rules = passed_all all (rule_set_checks rules 0) _ u eu past_base (rule_set_numbered rules 0) zu
 
-          pub write_by_table : 0 < v.number → v ≡ first (write_checks kind base rules l n room)
-          write_by_table h = ev ∙ sym (past_rules ∙ first_stops (table_checks kind l n) _ (rw (← ev) h))
+          table-number : t.number ≡ (first (table_checks kind l n)).number
+          table-number = ap (λ (x : Verdict). x.number) et
 
-          module _ (zv : v.number ≤ 0) where
-            table-clear : (first (table_checks kind l n)).number ≡ 0
-            table-clear = ap (λ (x : Verdict). x.number) (sym ev) ∙ omega arith
+          pub write_by_table : 0 < t.number → (v : Verdict) → v ≡ verdict t.number t.place → RefusedBy all v
+          write_by_table h v ev = record {
+            verdict_is = ev ∙ et ∙ sym (past_rules.is ∙ first_stops (table_checks kind l n) _ (rw (← et) h));
+            some = rw ev h;
+          }
 
+          module _ (zt : t.number ≡ 0) where
             pub written-sound : Sound kind l n
-            written-sound = passes-sound kind l n (first_done (table_checks kind l n) (table-numbered kind l n) table-clear)
+            written-sound = passes-sound kind l n (first_done (table_checks kind l n) (table-numbered kind l n) (sym table-number ∙ zt))
 
-            last-check : (b : Bool) → b ≡ ltb room (book_length_lem rules n) → verdict (cond b 12 0) 0 ≡ first (write_checks kind base rules l n room)
-            unfolding first
-            last-check true e = sym (past_rules ∙ first-clear (table_checks kind l n) _ (table-numbered kind l n) table-clear ∙ first_holds _ 12 0 [] (sym e))
-            last-check false e = sym (past_rules ∙ first-clear (table_checks kind l n) _ (table-numbered kind l n) table-clear ∙ first_passes _ 12 0 [] (sym e))
+            past_table : Past all (refuse (ltb room (book_length_lem rules n)) 12 0 ∷ [])
+            past_table = passed_all all (table_checks kind l n) _ t.number table-number past_rules (table-numbered kind l n) zt
 
-            pub write_by_room : (size : ℕ) → size ≡ book_length_lem rules n → (number : ℕ) → number ≡ cond (ltb room size) 12 0 → verdict number 0 ≡ first (write_checks kind base rules l n room)
-            write_by_room size es number e = ap (λ (x : ℕ). verdict x 0) e ∙ last-check (ltb room size) (rw es refl)
+            pub write_by_room : (size : ℕ) → size ≡ book_length_lem rules n → ltb room size ≡ true → (v : Verdict) → v ≡ verdict 12 0 → RefusedBy all v
+            write_by_room size es h v ev = stopped all _ 12 0 [] past_table (rw (← es) h) (omega arith) v ev
+
+            pub write_passes : (size : ℕ) → size ≡ book_length_lem rules n → ltb room size ≡ false → first all ≡ done
+            write_passes size es h = (passed all _ 12 0 [] past_table (rw (← es) h)).is ∙ first-none
 
 -- the whole call
-module _ (kind base rules : ℕ) (l : Lanes) (n : ℕ) (out : List ℕ) (v : Verdict) (ev : v ≡ first (write_checks kind base rules l n (length out))) where
-  pub write_refused : 0 < v.number → Writing kind base rules l n out out v.number v.place 0
-  write_refused h =
-      let t : write_done_lem kind base rules l n (length out) ≡ false = rw (← ev) (ne_eqb v.number 0 (λ z. omega arith)) in
-      record { verdict_is = ev; length_is = rw t refl; bytes_are = rw t refl }
+module _ (kind base rules : ℕ) (l : Lanes) (n : ℕ) (out : List ℕ) where
+  pub write_refused : (v : Verdict) → RefusedBy (write_checks kind base rules l n (length out)) v → Writing kind base rules l n out out v.number v.place 0
+  write_refused v r =
+      let t : write_done_lem kind base rules l n (length out) ≡ false = rw (← r.verdict_is) (ne_eqb v.number 0 (λ z. omega (arith, r.some))) in
+      record { verdict_is = r.verdict_is; length_is = rw t refl; bytes_are = rw t refl }
 
-  module _ (z : v.number ≤ 0) where
-    clear : (first (write_checks kind base rules l n (length out))).number ≡ 0
-    clear = ap (λ (x : Verdict). x.number) (sym ev) ∙ omega arith
-
+  module _ (clear : (first (write_checks kind base rules l n (length out))).number ≡ 0) where
     -- the checks from each on
     abbrev from_table : List Check
     from_table = table_checks kind l n ++ (refuse (ltb (length out) (book_length_lem rules n)) 12 0 ∷ [])
@@ -278,23 +279,15 @@ module _ (kind base rules : ℕ) (l : Lanes) (n : ℕ) (out : List ℕ) (v : Ver
         = omega (arith, length-append (head_bytes kind base rules) (fields_bytes (rows_of l n)), length-head kind base rules, length_fields n (row_at l)) in
         rw e refl
 
-    pub write_done : (c d : List ℕ) (start size : ℕ) → c ≡ written out 0 (head_bytes kind base rules) → start ≡ head_size_lem rules
+    pub write_done : first (write_checks kind base rules l n (length out)) ≡ done → (c d : List ℕ) (start size : ℕ) → c ≡ written out 0 (head_bytes kind base rules) → start ≡ head_size_lem rules
         → d ≡ written c start (fields_bytes (rows_of l n)) → size ≡ book_length_lem rules n → Writing kind base rules l n out d 0 0 size
-    write_done c d start size ec eh ed es =
+    write_done passes c d start size ec eh ed es =
         let t : write_done_lem kind base rules l n (length out) ≡ true = rw clear refl in
         let behind-head : start ≡ 0 + head_size_lem rules = omega (arith, eh) in
         let w : d ≡ written out 0 (book_bytes kind base rules (rows_of l n))
         = written_both out c d 0 (head_size_lem rules) (head_bytes kind base rules) (fields_bytes (rows_of l n)) (length-head kind base rules) (omega (arith, length_fields n (row_at l), write_room)) ec (rw (← behind-head) ed) in
         record {
-          verdict_is = sym (first_done (write_checks kind base rules l n (length out)) numbered clear);
+          verdict_is = sym passes;
           length_is = es ∙ rw t refl;
           bytes_are = w ∙ whole-book ∙ rw t refl;
         }
-      where
-        numbered : Numbered (write_checks kind base rules l n (length out))
-        numbered =
-            numbered-append (kind_checks kind 0) from_base_lem (kind-numbered kind 0) (
-              omega arith,
-              numbered-append (rule_set_checks rules 0) from_table (rule_set_numbered rules 0)
-                  (numbered-append (table_checks kind l n) (refuse (ltb (length out) (book_length_lem rules n)) 12 0 ∷ []) (table-numbered kind l n) (omega arith, tt)),
-            )

@@ -1,29 +1,53 @@
 -- What the parts of reading and writing promise one another.
-use Rattle.std.specs.Prelude.{◌≡◌, true, cond, List, ℕ, ◌+◌, ◌*◌, ◌≤◌, ◌<◌, length, eqb}
-use Rattle.term.specs.Refusal.{Check, verdict, first}
-use Rattle.annotation.specs.Kinds.{algebra}
-use Rattle.table.specs.Rows.{Row, Lanes, row, row_at, rows_of, add_row, filled}
+use Rattle.std.specs.Prelude.{◌≡◌, true, List, ℕ, ◌+◌, ◌*◌, ◌≤◌, ◌<◌, length, Result, Ok, Err}
+use Rattle.term.specs.Refusal.{Check, verdict, done, first}
+use Rattle.term.specs.declared.refusal.Verdict.{Verdict}
+use Rattle.term.specs.declared.refusal.Refused.{Refused}
+use Rattle.term.specs.Refused.{verdict_of}
+use Rattle.annotation.specs.declared.Kind.{Kind}
+use Rattle.ruleset.specs.declared.RuleSet.{RuleSet}
+use Rattle.annotation.specs.Numbered.{kind_number}
+use Rattle.ruleset.specs.Numbered.{set_number}
+use Rattle.table.specs.Rows.{Row, Lanes, row, row_at, rows_of, filled}
 use Rattle.table.specs.Sound.{Sound}
 use Rattle.table.specs.Places.{RowsWithin}
 use Rattle.field.specs.Fields.{size_at, behind}
 use Rattle.book.specs.declared.content.Head.{Head}
 use Rattle.book.specs.declared.content.Content.{Content}
-use Rattle.book.specs.declared.fields.FieldDone.{FieldDone}
-use Rattle.book.specs.declared.fields.FieldsDone.{FieldsDone}
 use Rattle.book.specs.declared.ReadDone.{ReadDone}
 use Rattle.book.specs.Format.{head_length_lem, is_head_length, triple_size, head_says_checks, head_content_checks, head_checks, head_edition, head_kind, head_base, head_rules, content_checks, field_checks, row_in}
-use Rattle.book.specs.Reading.{Read, step_checks, fields_from, fields_of, read_as, refused}
+use Rattle.book.specs.Reading.{Read, fields_from, fields_of, read_as, refused}
 
--- the number that the head's checks, or the last of them, give; where it is 0, what the head says, and where the fields begin
-pub record HeadBy (checks : List Check) (b : List ℕ) (h : Head) : Type 0 where
-  pub number_is : h.number ≡ (first checks).number
-  pub kind_is : h.number ≡ 0 → h.kind ≡ head_kind b
-  pub base_is : h.number ≡ 0 → h.base ≡ head_base b
-  pub rules_is : h.number ≡ 0 → h.rules ≡ head_rules b
-  pub next_is : h.number ≡ 0 → h.next ≡ behind b 0
+-- refused by the first of these checks that does not pass
+pub record RefusedBy (checks : List Check) (v : Verdict) : Type 0 where
+  pub verdict_is : v ≡ first checks
+  pub some : 0 < v.number
 
-abbrev pub HeadOf : List ℕ → Head → Type 0
-HeadOf b = HeadBy (head_checks b) b
+-- all of these checks pass, of a kind and a rule set by their numbers, or the first that does not is said
+pub record Passes (kind rules : ℕ) (checks : List Check) (k : Kind) (set : RuleSet) : Type 0 where
+  pub all : first checks ≡ done
+  pub kind_is : kind_number k ≡ kind
+  pub rules_is : set_number set ≡ rules
+
+abbrev pub Writes : ℕ → ℕ → List Check → Result (Kind × RuleSet) Refused → Type 0
+Writes kind rules checks (Ok p) = Passes kind rules checks p.0 p.1
+Writes kind rules checks (Err e) = RefusedBy checks (verdict_of e)
+
+-- where these checks pass: what the head says, and where the fields begin
+pub record HeadSaid (checks : List Check) (b : List ℕ) (h : Head) : Type 0 where
+  pub passes : first checks ≡ done
+  pub kind_is : kind_number h.kind ≡ head_kind b
+  pub base_is : h.base ≡ head_base b
+  pub rules_is : set_number h.rules ≡ head_rules b
+  pub next_is : h.next ≡ behind b 0
+
+-- the head's checks, or the last of them: what the head says, or the refusal
+abbrev pub HeadBy : List Check → List ℕ → Result Head Refused → Type 0
+HeadBy checks b (Ok h) = HeadSaid checks b h
+HeadBy checks b (Err e) = RefusedBy checks (verdict_of e)
+
+abbrev pub HeadOf : List ℕ → Result Head Refused → Type 0
+HeadOf b r = HeadBy (head_checks b) b r
 
 -- a whole field of a length that a head may have
 pub record HeadField (b : List ℕ) (size : ℕ) : Type 0 where
@@ -31,8 +55,8 @@ pub record HeadField (b : List ℕ) (size : ℕ) : Type 0 where
   pub fits : 3 + size ≤ length b
   pub head_length_lem_2 : is_head_length size ≡ true
 
-abbrev pub HeadContent : List ℕ → Head → Type 0
-HeadContent b = HeadBy (head_content_checks b) b
+abbrev pub HeadContent : List ℕ → Result Head Refused → Type 0
+HeadContent b r = HeadBy (head_content_checks b) b r
 
 -- a whole field of the length that suits its edition, and where the fields begin
 pub record HeadSuited (b : List ℕ) (edition next : ℕ) : Type 0 where
@@ -40,37 +64,29 @@ pub record HeadSuited (b : List ℕ) (edition next : ℕ) : Type 0 where
   pub fits : 3 + head_length_lem edition ≤ length b
   pub next_is : next ≡ behind b 0
 
-abbrev pub HeadSays : List ℕ → Head → Type 0
-HeadSays b = HeadBy (head_says_checks b) b
+abbrev pub HeadSays : List ℕ → Result Head Refused → Type 0
+HeadSays b r = HeadBy (head_says_checks b) b r
 
 abbrev pub row_of : Content → Row
-row_of c = row c.s c.p c.o c.a
+row_of c = row c.row.s c.row.p c.row.o c.row.a
 
--- the content of a whole triple field, with `next` behind it
-pub record TripleContent (kind : ℕ) (b : List ℕ) (at next : ℕ) (c : Content) : Type 0 where
-  pub number_is : c.number ≡ (first (content_checks kind (row_in b at) 0)).number
+-- where these checks pass: a field's row, and where the next field begins
+pub record RowSaid (checks : List Check) (b : List ℕ) (at next : ℕ) (c : Content) : Type 0 where
+  pub passes : first checks ≡ done
   pub row_is : row_of c ≡ row_in b at
   pub next_is : c.next ≡ next
 
--- a field's number, and where it is 0 its row, and where the next field begins
-pub record ContentOf (kind : ℕ) (b : List ℕ) (at : ℕ) (c : Content) : Type 0 where
-  pub number_is : c.number ≡ (first (field_checks kind b at)).number
-  pub row_is : c.number ≡ 0 → row_of c ≡ row_in b at
-  pub next_is : c.number ≡ 0 → c.next ≡ behind b at
+abbrev pub RowBy : List Check → List ℕ → ℕ → ℕ → Result Content Refused → Type 0
+RowBy checks b at next (Ok c) = RowSaid checks b at next c
+RowBy checks b at next (Err e) = RefusedBy checks (verdict_of e)
 
-pub record FieldInto (kind : ℕ) (b : List ℕ) (at : ℕ) (l : Lanes) (n : ℕ) : Type 0 where
-  pub some : at < length b
-  pub sound : Sound kind l n
+-- the content of a whole triple field, with `next` behind it
+abbrev pub TripleContent : ℕ → List ℕ → ℕ → ℕ → Result Content Refused → Type 0
+TripleContent kind b at next r = RowBy (content_checks kind (row_in b at) at) b at next r
 
--- the field's row is put into the table, or refused
-pub record FieldPut (kind : ℕ) (b : List ℕ) (at : ℕ) (l : Lanes) (n : ℕ) (m : Lanes) (d : FieldDone) : Type 0 where
-  pub number_is : d.number ≡ (first (step_checks kind b (length l.subj) at (rows_of l n))).number
-  pub next_is : d.number ≡ 0 → d.next ≡ behind b at
-  pub as_long : length m.subj ≡ length l.subj
-  pub more : d.number ≡ 0 → n ≤ d.count
-  pub rows_are : d.number ≡ 0 → rows_of m d.count ≡ add_row (algebra kind) (row_in b at) (rows_of l n)
-  pub rest : d.number ≡ 0 → (i : ℕ) → d.count ≤ i → row_at m i ≡ row_at l i
-  pub sound : Sound kind m d.count
+-- a field's refusal, or its row, and where the next field begins
+abbrev pub ContentOf : ℕ → List ℕ → ℕ → Result Content Refused → Type 0
+ContentOf kind b at r = RowBy (field_checks kind b at) b at (behind b at) r
 
 -- lanes of zeros, and no row yet
 pub record Fresh (kind : ℕ) (l : Lanes) : Type 0 where
@@ -87,13 +103,22 @@ pub record Reached (kind : ℕ) (b : List ℕ) (start : ℕ) (l m : Lanes) (at c
   pub meaning : (base rules : ℕ)
       → fields_of kind base rules b (length l.subj) start ≡ fields_from fuel kind base rules b (length l.subj) at (rows_of m count)
 
--- all fields from `start` on are read, or one is refused
-pub record FieldsRead (kind : ℕ) (b : List ℕ) (start : ℕ) (l m : Lanes) (d : FieldsDone) : Type 0 where
-  pub meaning : (base rules : ℕ) → fields_of kind base rules b (length l.subj) start
-      ≡ cond (eqb d.number 0) (read_as kind base rules (rows_of m d.count)) (refused (verdict d.number d.place))
-  pub filled_is : d.number ≡ 0 → m ≡ filled (rows_of m d.count) l
-  pub sound : Sound kind m d.count
+-- all fields from `start` on are read into count rows
+pub record FieldsDone (kind : ℕ) (b : List ℕ) (start : ℕ) (l m : Lanes) (count : ℕ) : Type 0 where
+  pub meaning : (base rules : ℕ) → fields_of kind base rules b (length l.subj) start ≡ read_as kind base rules (rows_of m count)
+  pub filled_is : m ≡ filled (rows_of m count) l
+  pub sound : Sound kind m count
   pub as_long : length m.subj ≡ length l.subj
+
+-- one is refused, behind some rows
+pub record FieldsRefused (kind : ℕ) (b : List ℕ) (start : ℕ) (l m : Lanes) (v : Verdict) : Type 0 where
+  pub meaning : (base rules : ℕ) → fields_of kind base rules b (length l.subj) start ≡ refused v
+  pub sound : (count : ℕ) × Sound kind m count
+  pub as_long : length m.subj ≡ length l.subj
+
+abbrev pub FieldsRead : ℕ → List ℕ → ℕ → Lanes → Lanes → ℕ → Result (Unit {0}) Refused → Type 0
+FieldsRead kind b start l m count (Ok u) = FieldsDone kind b start l m count
+FieldsRead kind b start l m count (Err e) = FieldsRefused kind b start l m (verdict_of e)
 
 -- "A refused reading gives kind, base year and count 0", and rule set 0
 abbrev pub refused_done : ℕ → ℕ → ReadDone

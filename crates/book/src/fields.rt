@@ -1,95 +1,29 @@
-// Field after field into the lent lanes.
+// Field after field into the lent table.
 ghost use Rattle.std.specs.Prelude.{◌≡◌};
-ghost use Rattle.field.specs.Fields.{field_at_lem};
-ghost use Rattle.table.specs.Lent.{before, after, lent};
-ghost use Rattle.book.specs.Inner.{FieldInto, FieldPut, Fresh, FieldsRead};
+ghost use Rattle.annotation.specs.Numbered.{kind_number};
+ghost use Rattle.table.specs.Lent.{lanes_in, Kept};
+ghost use Rattle.book.specs.Inner.{Fresh, FieldsRead};
 
 use crate::content::content_at;
-use field::Field;
-use field::reader::{field, moved, stand};
-use table::{put_row, room_number};
+use field::Reader;
+use table::{Full, Table};
+use term::{Refusal, Refused};
 
-// Where the next field begins, and the rows so far.
-#[derive(Drop)]
-pub struct FieldDone {
-    pub number: u8,
-    pub next: usize,
-    pub count: usize,
-}
-
-#[derive(Drop)]
-pub struct FieldsDone {
-    pub number: u8,
-    pub place: usize,
-    pub count: usize,
-}
-
-// The field found at a position is put into the table, or refused.
-fn read_field(
-    kind: u8,
-    book: &[u8],
-    at: usize,
-    field: Field,
-    subj: &mut [u16],
-    pred: &mut [u16],
-    obj: &mut [u16],
-    ann: &mut [u64],
-    count: usize,
-) -> FieldDone
-    requires { FieldInto kind book.now at (lent subj pred obj ann) count × (field ≡ field_at_lem book.now at) }
-    ensures { FieldPut kind book.now at (before subj pred obj ann) count (after subj pred obj ann) result }
+// Every field from `start` on, in order, until one is refused.
+pub fn read_fields(table: &mut Table, book: &[u8], start: usize) -> Result<(), Refused>
+    requires fresh { Fresh (kind_number table.old.kind) (lanes_in table.old) }
+    requires no_row { table.old.count ≡ 0 }
+    ensures kept { Kept table.old table.new }
+    ensures read { FieldsRead (kind_number table.old.kind) book.now start (lanes_in table.old) (lanes_in table.new) table.new.count result }
 {
-    let content = content_at(kind, book, at, field);
-    if content.number > 0 {
-        return FieldDone {
-            number: content.number,
-            next: at,
-            count,
-        };
-    }
-    let done = put_row(
-        kind, subj, pred, obj, ann, count, content.s, content.p, content.o, content.a,
-    );
-    FieldDone {
-        number: room_number(done.full),
-        next: content.next,
-        count: done.count,
-    }
-}
-
-// Every field from `start` on, in order, until one is refused. One reader is held, and goes from field to field.
-pub fn read_fields(
-    kind: u8,
-    book: &[u8],
-    start: usize,
-    subj: &mut [u16],
-    pred: &mut [u16],
-    obj: &mut [u16],
-    ann: &mut [u64],
-) -> FieldsDone
-    requires { Fresh kind (lent subj pred obj ann) }
-    ensures { FieldsRead kind book.now start (before subj pred obj ann) (after subj pred obj ann) result }
-{
-    let mut reader = stand(book, start);
-    let mut count = 0;
+    let mut reader = Reader::stand(book, start);
     while reader.at < reader.src.len() {
-        let found = field(reader);
-        let done = read_field(
-            kind, reader.src, reader.at, found, subj, pred, obj, ann, count,
-        );
-        if done.number > 0 {
-            return FieldsDone {
-                number: done.number,
-                place: reader.at,
-                count: done.count,
-            };
+        let field = content_at(table.kind, reader.src, reader.at, reader.field())?;
+        match table.put_row(field.row) {
+            Ok(_) => {}
+            Err(Full) => return Err(Refusal::NoRoom.at(reader.at)),
         }
-        count = done.count;
-        reader = moved(reader, done.next);
+        reader = reader.moved(field.next);
     }
-    FieldsDone {
-        number: 0,
-        place: 0,
-        count,
-    }
+    Ok(())
 }

@@ -3,26 +3,35 @@
 #![tactic(auto)]
 
 ghost use Rattle.std.specs.Prelude.{◌≡◌, length};
-ghost use Rattle.table.specs.Lent.{before, after, lent};
+ghost use Rattle.term.specs.Refused.{refusal_number};
+ghost use Rattle.annotation.specs.Numbered.{kind_number};
+ghost use Rattle.ruleset.specs.Numbered.{set_number};
+ghost use Rattle.table.specs.Lent.{before, after, lent, lanes_in, Kept};
 ghost use Rattle.book.specs.Reading.{fields_of, Reading};
 ghost use Rattle.book.specs.Writing.{Writing};
 ghost use Rattle.book.specs.Inner.{Fresh, refused_done, ReadInto};
-ghost use Rattle.table.specs.Rows.{lanes};
+ghost use Rattle.table.specs.Rows.{lanes, zeroed};
 
 mod content;
 mod fields;
+mod refusal;
 mod writing;
 
-pub use content::CUT;
-use content::head_of;
+use content::{Head, head_of};
 use fields::read_fields;
-use table::{unfit, wipe};
-use writing::{book_length, head_size, write_fields, write_head, write_verdict};
+use table::{Rows, Table};
+use term::{Refusal, Refused};
+use writing::{book_length, checked, head_size, write_fields, write_head};
 
-pub const TOO_LONG: u8 = 13;
+// A refusal's number, which the counter gives too: its input is cut short.
+pub const CUT: u8 = 1;
 
 pub const LONGEST_BOOK: usize = 65535;
 
+// So many are read before the first field.
+const NO_ROWS: usize = 0;
+
+// The answer of the page's call (`Reading`): the number is 0 where it is done.
 #[derive(Drop)]
 pub struct ReadDone {
     pub number: u8,
@@ -34,12 +43,12 @@ pub struct ReadDone {
 }
 
 // A refused reading gives kind, base year, rule set and count 0.
-fn refused(number: u8, place: usize) -> ReadDone
-    ensures { result ≡ refused_done number place }
+fn refused(e: Refused) -> ReadDone
+    ensures { result ≡ refused_done (refusal_number e.why) e.place }
 {
     ReadDone {
-        number,
-        place,
+        number: e.why.number(),
+        place: e.place,
         kind: 0,
         base: 0,
         rules: 0,
@@ -47,34 +56,52 @@ fn refused(number: u8, place: usize) -> ReadDone
     }
 }
 
-// The fields behind a legal head, from `start` on.
+// What a legal head says, and the fields behind it read into the table, which is emptied first; a refusal leaves all rows zero.
+fn read_fields_anew(table: &mut Table, book: &[u8], head: Head) -> ReadDone
+    requires fresh { Fresh (kind_number head.kind) (zeroed (lanes_in table.old)) }
+    requires no_row { table.old.count ≡ 0 }
+    requires of_its_kind { table.old.kind ≡ head.kind }
+    ensures kept { Kept table.old table.new }
+    ensures read { ReadInto (fields_of (kind_number head.kind) head.base (set_number head.rules) book.now (length (zeroed (lanes_in table.old)).subj) head.next) (zeroed (lanes_in table.old)) (lanes_in table.new) result }
+{
+    table.wipe();
+    match read_fields(table, book, head.next) {
+        Ok(()) => ReadDone {
+            number: 0,
+            place: 0,
+            kind: head.kind.number(),
+            base: head.base,
+            rules: head.rules.number(),
+            count: table.count,
+        },
+        Err(refusal) => {
+            table.wipe();
+            refused(refusal)
+        }
+    }
+}
+
+// The same with the lanes one by one.
 fn read_body(
     book: &[u8],
-    kind: u8,
-    base: u16,
-    rules: u8,
-    start: usize,
+    head: Head,
     subj: &mut [u16],
     pred: &mut [u16],
     obj: &mut [u16],
     ann: &mut [u64],
 ) -> ReadDone
-    requires { Fresh kind (lent subj pred obj ann) }
-    ensures { ReadInto (fields_of kind base rules book.now (length subj.old) start) (before subj pred obj ann) (after subj pred obj ann) result }
+    requires { Fresh (kind_number head.kind) (zeroed (lent subj pred obj ann)) }
+    ensures { ReadInto (fields_of (kind_number head.kind) head.base (set_number head.rules) book.now (length (zeroed (before subj pred obj ann)).subj) head.next) (zeroed (before subj pred obj ann)) (after subj pred obj ann) result }
 {
-    let fields = read_fields(kind, book, start, subj, pred, obj, ann);
-    if fields.number > 0 {
-        wipe(subj, pred, obj, ann);
-        return refused(fields.number, fields.place);
-    }
-    ReadDone {
-        number: 0,
-        place: 0,
-        kind,
-        base,
-        rules,
-        count: fields.count,
-    }
+    let mut table = Table {
+        kind: head.kind,
+        subj,
+        pred,
+        obj,
+        ann,
+        count: NO_ROWS,
+    };
+    read_fields_anew(&mut table, book, head)
 }
 
 // Reads a book into the lanes.
@@ -87,22 +114,32 @@ pub fn read(
 ) -> ReadDone
     ensures { Reading book.now (before subj pred obj ann) (after subj pred obj ann) result.number result.place result.kind result.base result.rules result.count }
 {
-    if unfit(subj, pred, obj, ann) {
-        return refused(table::LANES_UNFIT, 0);
+    let rows = Rows {
+        subj,
+        pred,
+        obj,
+        ann,
+        count: NO_ROWS,
+    };
+    if rows.is_unfit() {
+        return refused(Refusal::LanesUnfit.at(0));
     }
     if LONGEST_BOOK < book.len() {
-        return refused(TOO_LONG, 0);
+        return refused(Refusal::TooLong.at(0));
     }
-    wipe(subj, pred, obj, ann);
-    let head = head_of(book);
-    if head.number > 0 {
-        return refused(head.number, 0);
+    match head_of(book) {
+        Ok(head) => read_body(book, head, subj, pred, obj, ann),
+        Err(e) => {
+            subj.fill(0);
+            pred.fill(0);
+            obj.fill(0);
+            ann.fill(0);
+            refused(e)
+        }
     }
-    read_body(
-        book, head.kind, head.base, head.rules, head.next, subj, pred, obj, ann,
-    )
 }
 
+// The answer of the page's call (`Writing`).
 #[derive(Drop)]
 pub struct WriteDone {
     pub number: u8,
@@ -124,19 +161,27 @@ pub fn write(
 ) -> WriteDone
     ensures { Writing kind base rules (lanes subj.now pred.now obj.now ann.now) count out.old out.new result.number result.place result.length }
 {
-    let verdict = write_verdict(kind, base, rules, subj, pred, obj, ann, count, out.len());
-    if verdict.number > 0 {
-        return WriteDone {
-            number: verdict.number,
-            place: verdict.place,
+    let rows = Rows {
+        subj,
+        pred,
+        obj,
+        ann,
+        count,
+    };
+    match checked(kind, base, rules, &rows, out.len()) {
+        Ok((kind, rules)) => {
+            write_head(out, kind, base, rules);
+            write_fields(out, head_size(rules), &rows);
+            WriteDone {
+                number: 0,
+                place: 0,
+                length: book_length(rules, count),
+            }
+        }
+        Err(e) => WriteDone {
+            number: e.why.number(),
+            place: e.place,
             length: 0,
-        };
-    }
-    write_head(out, kind, base, rules);
-    write_fields(out, head_size(rules), subj, pred, obj, ann, count);
-    WriteDone {
-        number: 0,
-        place: 0,
-        length: book_length(rules, count),
+        },
     }
 }

@@ -32,7 +32,7 @@ fn main(rt: HostRuntime) -> io::Result<()> {
     rt.write_all(&text[..size])
 }
 
-// Lays what the book prints at the front of `out`, and answers how long it is.
+// Lays what the book prints at the front of `out`, and answers how long it is. The page's calls answer by number, 0 where they are done.
 fn close_listed(
     book: &[u8],
     subj: &mut [u16],

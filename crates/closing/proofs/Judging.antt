@@ -8,8 +8,14 @@ use Rattle.term.specs.Refusal.{Check, verdict, done, first}
 use Rattle.term.specs.declared.refusal.Verdict.{Verdict}
 use Rattle.term.proofs.Firsts.{first_passes, first_stops, Numbered, numbered-append, first-clear, first_done, Without, without_append, AllAt, first-place, first-split, first-left}
 use Rattle.ruleset.specs.RuleSet.{is_rule_set, rule_set_checks}
+use Rattle.ruleset.specs.declared.RuleSet.{RuleSet}
+use Rattle.ruleset.specs.declared.RuleSet.TheVariants.{Basic, Reflexive}
+use Rattle.ruleset.specs.Numbered.{set_number}
+use Rattle.annotation.specs.declared.Kind.{Kind}
 use Rattle.annotation.specs.Kinds.{kind_checks}
+use Rattle.annotation.specs.Numbered.{kind_number}
 use Rattle.annotation.proofs.Judged.{kind-numbered, kind-not_12, kind_at, passes-kind}
+use Rattle.annotation.proofs.Known.{kind-passes}
 use Rattle.table.specs.Rows.{Lanes}
 use Rattle.table.specs.Checks.{table_checks}
 use Rattle.table.specs.Sound.{Sound}
@@ -84,3 +90,22 @@ module _ (kind rules : ℕ) (l : Lanes) (n : ℕ) where
   -- a rule set and a sound table are not refused
   pub not-refused : is_rule_set rules ≡ true → Sound kind l n → 0 < (first (close_checks kind rules l n)).number → ⊥
   not-refused known sound h = omega (arith, ap (λ (v : Verdict). v.number) (ready-passes known sound))
+
+-- a rule set that the code has is one of the document's, and no other is refused
+set-known : (r : RuleSet) → is_rule_set (set_number r) ≡ true
+unfolding is_rule_set
+set-known Basic = refl
+set-known Reflexive = refl
+
+set-passes : (r : RuleSet) → 0 ≡ (first (rule_set_checks (set_number r) 0)).number
+unfolding first
+set-passes r = rw (set-known r) refl
+
+-- "36 rule set unknown"
+pub unknown_is36 : (n : ℕ) → is_rule_set n ≡ false → 36 ≡ (first (rule_set_checks n 0)).number
+unfolding first
+unknown_is36 n h = rw h refl
+
+-- of a kind and a rule set that there are the table's checks are left
+pub close_by_known : (k : Kind) (r : RuleSet) (l : Lanes) (n : ℕ) → first (table_checks (kind_number k) l n) ≡ first (close_checks (kind_number k) (set_number r) l n)
+close_by_known k r l n = close_by_table (kind_number k) (set_number r) l n 0 (kind-passes k) (omega arith) 0 (set-passes r) (omega arith)

@@ -11,8 +11,7 @@ use Rattle.term.specs.declared.refusal.Verdict.{Verdict}
 use Rattle.ruleset.specs.RuleSet.{is_rule_set}
 use Rattle.table.specs.Rows.{Row, Lanes, rows_of, row_at, laid, zeroed, filled}
 use Rattle.table.specs.Sound.{Sound}
-use Rattle.table.specs.Places.{RowsWithin}
-use Rattle.table.proofs.Soundness.{sound-list, sound-within}
+use Rattle.table.proofs.Soundness.{sound-list}
 use Rattle.table.proofs.Laid.{zeroed-alike}
 use Rattle.rhodf.specs.Graph.{graph_of}
 use Rattle.rhodf.specs.Rules.{rules_of}
@@ -60,9 +59,6 @@ module _ {kind : ℕ} (rules : ℕ) {l : Lanes} {n : ℕ} (ready : (is_rule_set 
 
   same-zeroed : zeroed m ≡ zeroed l
   same-zeroed = zeroed-alike s.risen.as_long
-
-  pub past_within : {k : ℕ} → k ≤ n' → RowsWithin m k
-  past_within h = sound-within s.risen.sound (omega (arith, s.risen.sound.within))
 
   pub closing_done : full ≡ false → {m' : Lanes} → m' ≡ filled (rows_of m n') m → Closing kind rules l n m' 0 0 n'
   closing_done f e = record {

@@ -1,18 +1,21 @@
 // The rows past the count.
 ghost use Rattle.std.specs.Prelude.{◌≡◌};
 ghost use Rattle.table.specs.Rows.{rows_of, filled};
-ghost use Rattle.table.specs.Lent.{before, after, lent};
+ghost use Rattle.table.specs.Lent.{lanes_in, Kept};
 ghost use Rattle.table.specs.Places.{RowsWithin};
 
-use table::{zero_u16, zero_u64};
+use table::Table;
 
 // Zeroes the rows past the count.
-pub fn wipe_past(subj: &mut [u16], pred: &mut [u16], obj: &mut [u16], ann: &mut [u64], count: usize)
-    requires { RowsWithin (lent subj pred obj ann) count }
-    ensures { after subj pred obj ann ≡ filled (rows_of (before subj pred obj ann) count) (before subj pred obj ann) }
+pub fn wipe_past(table: &mut Table)
+    requires { RowsWithin (lanes_in table.old) table.old.count }
+    ensures kept { Kept table.old table.new }
+    ensures wiped { lanes_in table.new ≡ filled (rows_of (lanes_in table.old) table.old.count) (lanes_in table.old) }
+    ensures same_count { table.new.count ≡ table.old.count }
 {
-    zero_u16(&mut subj[count..]);
-    zero_u16(&mut pred[count..]);
-    zero_u16(&mut obj[count..]);
-    zero_u64(&mut ann[count..]);
+    let end = table.count;
+    table.subj[end..].fill(0);
+    table.pred[end..].fill(0);
+    table.obj[end..].fill(0);
+    table.ann[end..].fill(0);
 }

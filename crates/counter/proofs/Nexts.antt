@@ -1,16 +1,15 @@
 -- What stands next in the input: as the code finds it, and in the front of the input. Assumes nothing.
 use mathlib.Core.Path.{◌≡◌, refl, sym, ap, ◌∙◌}
-use mathlib.Core.Bool.{Bool, true, false}
+use mathlib.Core.Bool.{true, false}
 use mathlib.Core.List.{List, [], ◌∷◌}
-use Prim.Native.Nat.{ℕ, suc, ◌+◌, ◌-◌, ◌*◌, ◌≤◌, ◌<◌}
+use Prim.Native.Nat.{ℕ, ◌+◌, ◌-◌, ◌*◌, ◌≤◌, ◌<◌}
 use native.Mathlib.Decide.{dec_lt}
 use native.Mathlib.Omega.{arith}
 use lib.ListN.{length, get_or, take, drop}
 use lib.Seq.{take_all, length-take-le, slice_empty}
-use lib.Dec.{eqb, leb}
-use borrow.Author.Tests.{lt-ltb, le-ltb, leb-true, leb-false}
+use borrow.Author.Tests.{lt-ltb, le-ltb}
 use Rattle.counter.specs.Counted.{Next, ended, cut, whole, behind_length, next}
-use Rattle.counter.specs.Turns.{Came}
+use Rattle.std.specs.List.{slice_range}
 use Rattle.counter.specs.Run.{front, behind}
 
 -- ---- the three are apart
@@ -40,25 +39,15 @@ length_whole n r h = rw (le-ltb (length r) n h) refl
 
 -- ---- as the code finds it
 
-pub came_short : (s : List ℕ) → length s < 2 → Came s (eqb (length s) 0) false 0
-came_short [] h = record { is_next = refl; within = λ e. absurd (true-not_false (sym e)) }
-came_short (x ∷ []) h = record { is_next = refl; within = λ e. absurd (true-not_false (sym e)) }
-came_short (x ∷ y ∷ s) h = absurd (omega arith)
-
-pub came_long : (s : List ℕ) (n : ℕ) → 2 ≤ length s → n ≡ get_or s 0 0 * 256 + get_or s 1 0 → Came s false (leb n (length s - 2)) (2 + n)
-came_long [] n h e = absurd (omega arith)
-came_long (x ∷ []) n h e = absurd (omega arith)
-came_long (x ∷ y ∷ r) n h e = go (leb n (length (x ∷ y ∷ r) - 2)) refl
-  where
-    go : (t : Bool) → leb n (length (x ∷ y ∷ r) - 2) ≡ t → Came (x ∷ y ∷ r) false t (2 + n)
-    go true k =
-        let fits = leb-true n (length (x ∷ y ∷ r) - 2) k in
-        let past : 2 + n - 2 ≡ n = omega arith in
-        let two : 2 + n ≡ suc (suc n) = omega arith in
-        record { is_next = ap (λ (j : ℕ). behind_length j r) (sym e) ∙ length_whole n r (omega arith) ∙ rw (past, two) refl; within = λ _. (omega arith, omega arith) }
-    go false k =
-        let long = leb-false n (length (x ∷ y ∷ r) - 2) k in
-        record { is_next = ap (λ (j : ℕ). behind_length j r) (sym e) ∙ length_cut n r (omega arith); within = λ p. absurd (true-not_false (sym p)) }
+pub came_whole : (s part : List ℕ) (n : ℕ) → 2 ≤ length s → n ≡ get_or s 0 0 * 256 + get_or s 1 0
+    → n ≤ length (take (length s - 2) (drop 2 s)) → part ≡ slice_range (take (length s - 2) (drop 2 s)) 0 n → (rest : List ℕ) × (next s ≡ whole part rest)
+came_whole [] part n h e fits p = absurd (omega arith)
+came_whole (x ∷ []) part n h e fits p = absurd (omega arith)
+came_whole (x ∷ y ∷ r) part n h e fits p =
+    let all : take (length (x ∷ y ∷ r) - 2) r ≡ r = take_all (length (x ∷ y ∷ r) - 2) r (omega arith) in
+    let front : n - 0 ≡ n = omega arith in
+    let is-part : part ≡ take n r = p ∙ rw (all, front) refl in
+    (drop n r, ap (λ (j : ℕ). behind_length j r) (sym e) ∙ length_whole n r (rw all at fits) ∙ ap (λ (q : List ℕ). whole q (drop n r)) (sym is-part))
 
 -- ---- the front of the input
 

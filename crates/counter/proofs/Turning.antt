@@ -1,10 +1,11 @@
 -- The text for the book's bytes, and for a question's, step by step. Assumes nothing.
-use mathlib.Core.Path.{◌≡◌, refl, sym, ap, ◌∙◌}
-use mathlib.Core.Bool.{Bool, true, false, cond}
+use mathlib.Core.Path.{◌≡◌, refl, ap, ◌∙◌}
+use mathlib.Core.Bool.{true, false}
+use Rattle.std.proofs.Common.{◌⊎◌, inl, inr}
 use mathlib.Core.List.{List, []}
-use Prim.Native.Nat.{ℕ, ◌-◌, ◌≤◌, ◌<◌}
+use Prim.Native.Nat.{ℕ, ◌≤◌, ◌<◌}
 use native.Mathlib.Omega.{arith}
-use lib.ListN.{length, take, drop}
+use lib.ListN.{length, take}
 use Rattle.ruleset.specs.RuleSet.{is_rule_set}
 use Rattle.table.specs.Rows.{Lanes, rows_of}
 use Rattle.book.specs.Reading.{Reading}
@@ -31,7 +32,10 @@ use Rattle.printing.specs.Text.{refused_line}
 use Rattle.printing.specs.Laid.{Laid, Fronted}
 use Rattle.printing.proofs.Laying.{laid_none, laid-front, refused-long}
 use Rattle.counter.specs.Counted.{ended, cut, whole, next, comes_to, asked_lines}
-use Rattle.counter.specs.Turns.{asked_room, Is, Came, Over, Ready, Opening, Turned}
+use Rattle.std.specs.Borrow.{Bor}
+use Rattle.counter.specs.declared.next.Part.{Part}
+use Rattle.counter.specs.declared.next.Part.TheVariants.{Ended, Cut, Whole}
+use Rattle.counter.specs.Turns.{asked_room, Is, Came, Ready, Opening, Turned}
 use Rattle.counter.proofs.Nexts.{ended-not_cut, ended-not_whole, cut-not_whole, same_whole, true-not_false}
 
 -- the same bytes, said of otherwise
@@ -42,53 +46,36 @@ fronted_as {P} {Q} {out} {out'} {size} f p = record { counts = p.counts; text_is
 pub fronted_none : (P : List ℕ → Type 0) (out : List ℕ) → P [] → Fronted P out out 0
 fronted_none P out p = laid-front P out out [] 0 (omega arith) p (laid_none out 0)
 
-module _ {s : List ℕ} {over : Bool} {end : ℕ} where
-  -- nothing whole stands next
-  pub not-whole : Came s over false end → (q rest : List ℕ) → next s ≡ whole q rest → ⊥
-  not-whole c q rest e = go over c.is_next
-    where
-      go : (t : Bool) → next s ≡ cond t ended cut → ⊥
-      go true h = ended-not_whole h e
-      go false h = cut-not_whole h e
+-- no bytes stand next: they have ended, or are cut
+not-whole : (s : List ℕ) → (next s ≡ ended) ⊎ (next s ≡ cut) → (q rest : List ℕ) → next s ≡ whole q rest → ⊥
+not-whole s (inl h) q rest e = ended-not_whole h e
+not-whole s (inr h) q rest e = cut-not_whole h e
 
-  -- the bytes behind the length
-  pub is_whole : Came s over true end → next s ≡ whole (take (end - 2) (drop 2 s)) (drop end s)
-  is_whole c = c.is_next
-
--- ---- no question
-
-pub over-cut : (over : Bool) → over ≡ false → (out out' : List ℕ) (laid : ℕ) → asked_room ≤ length out → Laid out out' 0 laid (refused_line 1 0) → Over over out out' true laid
-over-cut over e out out' laid room p = record {
-  is_over_lem = refl;
-  says = laid-front (Is (cond over [] (refused_line 1 0))) out out' (refused_line 1 0) laid (omega (arith, refused-long 1 0, room)) (rw e refl) p;
-}
-
-pub over-ended : (over : Bool) → over ≡ true → (out : List ℕ) → Over over out out true 0
-over-ended over e out = record { is_over_lem = refl; says = fronted_none (Is (cond over [] (refused_line 1 0))) out (rw e refl) }
+pub came_none : (s : List ℕ) (p : Part) → Came s p → ((q : Bor (List ℕ)) → p ≡ Whole q → ⊥) → (next s ≡ ended) ⊎ (next s ≡ cut)
+came_none s Ended c n = inl c
+came_none s Cut c n = inr c
+came_none s (Whole q) c n = absurd (n q refl)
 
 -- ---- the book
 
-module _ (s : List ℕ) (over : Bool) (end : ℕ) (out : List ℕ) (room : asked_room ≤ length out) (out' : List ℕ) (laid : ℕ) where
-  pub open_short : Came s over false end → (kind rules : ℕ) (m : Lanes) (n : ℕ) → Laid out out' 0 laid (refused_line 1 0) → Fronted (Opening s true kind rules m n) out out' laid
+module _ (s : List ℕ) (out : List ℕ) (room : asked_room ≤ length out) (out' : List ℕ) (laid : ℕ) where
+  pub open_short : (next s ≡ ended) ⊎ (next s ≡ cut) → (kind rules : ℕ) (m : Lanes) (n : ℕ) → Laid out out' 0 laid (refused_line 1 0) → Fronted (Opening s true kind rules m n) out out' laid
   open_short c kind rules m n p =
       laid-front (Opening s true kind rules m n) out out' (refused_line 1 0) laid (omega (arith, refused-long 1 0, room))
       (record {
         no_book = λ e. (refl, refl);
         cut_book = λ e. (refl, refl);
-        unread = λ b rest e. absurd (not-whole c b rest e);
-        opened = λ b rest e. absurd (not-whole c b rest e);
+        unread = λ b rest e. absurd (not-whole s c b rest e);
+        opened = λ b rest e. absurd (not-whole s c b rest e);
         ready = λ e. absurd (true-not_false e);
         rules_known = λ e. absurd (true-not_false e);
       })
       p
 
-  module _ (c : Came s over true end) (m : Lanes) (number place kind base rules count : ℕ)
-      (read : Reading (take (end - 2) (drop 2 s)) fresh_lanes m number place kind base rules count) where
-    abbrev book : List ℕ
-    book = take (end - 2) (drop 2 s)
-
+  module _ (book behind : List ℕ) (c : next s ≡ whole book behind) (m : Lanes) (number place kind base rules count : ℕ)
+      (read : Reading book fresh_lanes m number place kind base rules count) where
     is-book : (b rest : List ℕ) → next s ≡ whole b rest → b ≡ book
-    is-book b rest e = (same_whole e (is_whole c)).0
+    is-book b rest e = (same_whole e c).0
 
     pub open_unread : 0 < number → (k u : ℕ) (l : Lanes) (n : ℕ) → Laid out out' 0 laid (refused_line number place) → Fronted (Opening s true k u l n) out out' laid
     open_unread h k u l n p =
@@ -96,8 +83,8 @@ module _ (s : List ℕ) (over : Bool) (end : ℕ) (out : List ℕ) (room : asked
         let y = is-place book fresh_lanes m number place kind base rules count read in
         laid-front (Opening s true k u l n) out out' (refused_line number place) laid (omega (arith, refused-long number place, room))
         (record {
-          no_book = λ e. absurd (ended-not_whole e (is_whole c));
-          cut_book = λ e. absurd (cut-not_whole e (is_whole c));
+          no_book = λ e. absurd (ended-not_whole e c);
+          cut_book = λ e. absurd (cut-not_whole e c);
           unread = λ b rest e q. (refl, rw (is-book b rest e, x, y) refl);
           opened = λ b rest e z. absurd (omega (arith, x, ap (λ (t : List ℕ). (said t).verdict_of.number) (is-book b rest e)));
           ready = λ e. absurd (true-not_false e);
@@ -110,8 +97,8 @@ module _ (s : List ℕ) (over : Bool) (end : ℕ) (out : List ℕ) (room : asked
         let x = zero_number book fresh_lanes m number place kind base rules count read z in
         fronted_none (Opening s false kind rules m count) out
         (record {
-          no_book = λ e. absurd (ended-not_whole e (is_whole c));
-          cut_book = λ e. absurd (cut-not_whole e (is_whole c));
+          no_book = λ e. absurd (ended-not_whole e c);
+          cut_book = λ e. absurd (cut-not_whole e c);
           unread = λ b rest e q. absurd (omega (arith, x, ap (λ (t : List ℕ). (said t).verdict_of.number) (is-book b rest e)));
           opened = λ b rest e q. (
             refl,
@@ -126,33 +113,38 @@ module _ (s : List ℕ) (over : Bool) (end : ℕ) (out : List ℕ) (room : asked
 
 -- ---- a question
 
-module _ (looks kind rules : ℕ) (known : is_rule_set rules ≡ true) (l : Lanes) (n : ℕ) (ready : Ready kind l n) (s : List ℕ) (over : Bool) (end : ℕ) (out out' : List ℕ) (laid : ℕ) where
-  pub turn_none : Came s over false end → (all : Bool) (m : Lanes) (k : ℕ) → Over over out out' all laid → Fronted (Turned looks kind rules (rows_of l n) s all m k) out out' laid
-  turn_none c all m k o =
-      fronted_as (λ t p. record {
-        no_more = λ e. (o.is_over_lem, p ∙ says_nothing over c.is_next e);
-        cut_short = λ e. (o.is_over_lem, p ∙ says-cut over c.is_next e);
-        no_room = λ q rest e. absurd (not-whole c q rest e);
-        asked = λ q rest e. absurd (not-whole c q rest e);
-        ready = λ e. absurd (true-not_false (sym o.is_over_lem ∙ e));
-      }) o.says
-    where
-      says_nothing : (t : Bool) → next s ≡ cond t ended cut → next s ≡ ended → cond t [] (refused_line 1 0) ≡ []
-      says_nothing true h e = refl
-      says_nothing false h e = absurd (ended-not_cut e h)
+module _ (looks kind rules : ℕ) (known : is_rule_set rules ≡ true) (l : Lanes) (n : ℕ) (ready : Ready kind l n) (s : List ℕ) (out out' : List ℕ) (laid : ℕ) where
+  pub turn_ended : next s ≡ ended → (m : Lanes) (k : ℕ) → Fronted (Turned looks kind rules (rows_of l n) s true m k) out out 0
+  turn_ended c m k =
+      fronted_none (Turned looks kind rules (rows_of l n) s true m k) out
+      (record {
+        no_more = λ e. (refl, refl);
+        cut_short = λ e. absurd (ended-not_cut c e);
+        no_room = λ q rest e. absurd (ended-not_whole c e);
+        asked = λ q rest e. absurd (ended-not_whole c e);
+        ready = λ e. absurd (true-not_false e);
+      })
 
-      says-cut : (t : Bool) → next s ≡ cond t ended cut → next s ≡ cut → cond t [] (refused_line 1 0) ≡ refused_line 1 0
-      says-cut true h e = absurd (ended-not_cut h e)
-      says-cut false h e = refl
+  pub turn_cut : next s ≡ cut → asked_room ≤ length out → (m : Lanes) (k : ℕ) → Laid out out' 0 laid (refused_line 1 0) → Fronted (Turned looks kind rules (rows_of l n) s true m k) out out' laid
+  turn_cut c room m k p =
+      laid-front (Turned looks kind rules (rows_of l n) s true m k) out out' (refused_line 1 0) laid (omega (arith, refused-long 1 0, room))
+      (record {
+        no_more = λ e. absurd (ended-not_cut e c);
+        cut_short = λ e. (refl, refl);
+        no_room = λ q rest e. absurd (cut-not_whole c e);
+        asked = λ q rest e. absurd (cut-not_whole c e);
+        ready = λ e. absurd (true-not_false e);
+      })
+      p
 
-  module _ (c : Came s over true end) (m : Lanes) (number place count : ℕ) (close : Closing kind rules l n m number place count) where
+  module _ (question behind : List ℕ) (c : next s ≡ whole question behind) (m : Lanes) (number place count : ℕ) (close : Closing kind rules l n m number place count) where
     pub turn_full : 0 < number → asked_room ≤ length out → (k : ℕ) → Laid out out' 0 laid (refused_line number place) → Fronted (Turned looks kind rules (rows_of l n) s true m k) out out' laid
     turn_full h room k p =
         let v = full_is kind rules known l n ready.sound m number place count close h in
         laid-front (Turned looks kind rules (rows_of l n) s true m k) out out' (refused_line number place) laid (omega (arith, refused-long number place, room))
         (record {
-          no_more = λ e. absurd (ended-not_whole e (is_whole c));
-          cut_short = λ e. absurd (cut-not_whole e (is_whole c));
+          no_more = λ e. absurd (ended-not_whole e c);
+          cut_short = λ e. absurd (cut-not_whole e c);
           no_room = λ q rest e closed d f. (refl, rw (number_of v, place_of v) refl);
           asked = λ q rest e closed d f. absurd (full kind rules known l n ready.sound m number place count close h closed d (omega (arith, f, ready.room)));
           ready = λ e. absurd (true-not_false e);
@@ -166,14 +158,14 @@ module _ (looks kind rules : ℕ) (known : is_rule_set rules ≡ true) (l : Lane
         room = (closed-as_long kind rules known l n ready.sound m number place count close z).same_subj ∙ ready.room;
       }
 
-      pub turn_asked : Fronted (Is (asked_lines (comes_to kind (rows_of m count) looks (take (end - 2) (drop 2 s))))) out out' laid → Fronted (Turned looks kind rules (rows_of l n) s false m count) out out' laid
+      pub turn_asked : Fronted (Is (asked_lines (comes_to kind (rows_of m count) looks question))) out out' laid → Fronted (Turned looks kind rules (rows_of l n) s false m count) out out' laid
       turn_asked p =
           fronted_as (λ t w. record {
-            no_more = λ e. absurd (ended-not_whole e (is_whole c));
-            cut_short = λ e. absurd (cut-not_whole e (is_whole c));
+            no_more = λ e. absurd (ended-not_whole e c);
+            cut_short = λ e. absurd (cut-not_whole e c);
             no_room = λ q rest e closed d f. absurd (not_full kind rules known l n ready.sound m number place count close z closed d (omega (arith, f, ready.room)));
             asked = λ q rest e closed d f.
                 let same = closed-rows kind rules known l n ready.sound m number place count close z closed d (omega (arith, f, ready.room)) in
-                (refl, w ∙ rw (same, (same_whole e (is_whole c)).0) refl, same);
+                (refl, w ∙ rw (same, (same_whole e c).0) refl, same);
             ready = λ _. closed-ready;
           }) p

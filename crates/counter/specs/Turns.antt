@@ -1,5 +1,5 @@
 -- One turn of the counter: what is done with the book's bytes, and with a question's.
-use Rattle.std.specs.Prelude.{◌≡◌, Bool, true, false, cond, List, [], ℕ, ◌-◌, ◌≤◌, ◌<◌, length, take, drop}
+use Rattle.std.specs.Prelude.{◌≡◌, Bool, true, false, List, [], ℕ, ◌≤◌, ◌<◌, length, Option, Some, None}
 use Rattle.ruleset.specs.RuleSet.{is_rule_set}
 use Rattle.table.specs.Rows.{Row, Lanes, rows_of}
 use Rattle.table.specs.Sound.{Sound}
@@ -7,8 +7,10 @@ use Rattle.rhodf.specs.Rules.{rules_of}
 use Rattle.rhodf.specs.Closure.{ClosureOf}
 use Rattle.trackvesper.specs.ClosedBook.{said}
 use Rattle.printing.specs.Text.{refused_line}
-use Rattle.printing.specs.Laid.{Fronted}
-use Rattle.counter.specs.Counted.{Next, ended, cut, whole, next, comes_to, asked_lines}
+use Rattle.counter.specs.declared.next.Part.{Part}
+use Rattle.counter.specs.declared.next.Part.TheVariants.{Ended, Cut, Whole}
+use Rattle.counter.specs.declared.turns.Table.{Table}
+use Rattle.counter.specs.Counted.{ended, cut, whole, next, comes_to, asked_lines}
 
 -- a line, and 256 of the longest answers, have room in it
 abbrev pub asked_room : ℕ
@@ -18,18 +20,33 @@ asked_room = 67712
 abbrev pub Is : List ℕ → List ℕ → Type 0
 Is text t = t ≡ text
 
--- what stands next, by two flags, and the place where its bytes end
-abbrev pub next_as : Bool → Bool → List ℕ → List ℕ → Next
-next_as over all q rest = cond all (whole q rest) (cond over ended cut)
+-- what stands next, as it is found
+abbrev pub Came : List ℕ → Part → Type 0
+Came s Ended = next s ≡ ended
+Came s Cut = next s ≡ cut
+Came s (Whole q) = (rest : List ℕ) × (next s ≡ whole q.now rest)
 
-pub record Came (s : List ℕ) (over all : Bool) (end : ℕ) : Type 0 where
-  pub is_next : next s ≡ next_as over all (take (end - 2) (drop 2 s)) (drop end s)
-  pub within : all ≡ true → (2 ≤ end) × (end ≤ length s)
+-- whether that is all: there is nothing to go on with
+abbrev pub is_over : {A : Type 0} → Option A → Bool
+is_over None = true
+is_over (Some x) = false
 
--- no question stands next: the text says nothing if the questions have ended, else that the input was cut
-pub record Over (over : Bool) (out out' : List ℕ) (is_all : Bool) (size : ℕ) : Type 0 where
-  pub is_over_lem : is_all ≡ true
-  pub says : Fronted (Is (cond over [] (refused_line 1 0))) out out' size
+-- what there is to go on with
+abbrev pub kind_in : Option Table → ℕ
+kind_in None = 0
+kind_in (Some t) = t.kind
+
+abbrev pub rules_in : Option Table → ℕ
+rules_in None = 0
+rules_in (Some t) = t.rules
+
+abbrev pub rows_in : Option Table → ℕ
+rows_in None = 0
+rows_in (Some t) = t.rows
+
+abbrev pub count_in : Option ℕ → ℕ
+count_in None = 0
+count_in (Some n) = n
 
 -- a table between two turns
 pub record Ready (kind : ℕ) (l : Lanes) (n : ℕ) : Type 0 where

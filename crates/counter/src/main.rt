@@ -36,12 +36,21 @@ fn main(rt: HostRuntime) -> io::Result<()> {
         &mut text,
     );
     rt.write_all(&text[..book.size])?;
-    if book.over {
+    let Some(table) = book.table else {
         return Ok(());
-    }
+    };
     answer_all(
-        &rt, &mut input, book.kind, book.rules, &mut subj, &mut pred, &mut obj, &mut ann,
-        book.rows, &mut bytes, &mut text,
+        &rt,
+        &mut input,
+        table.kind,
+        table.rules,
+        &mut subj,
+        &mut pred,
+        &mut obj,
+        &mut ann,
+        table.rows,
+        &mut bytes,
+        &mut text,
     )
 }
 
@@ -69,7 +78,7 @@ fn read_part<R: Read>(input: &mut R, bytes: &mut [u8], from: usize, to: usize) -
     read_full(input, &mut bytes[from..to])
 }
 
-// A proved loop has to end, and nothing says that the input does: the turns are counted down from a number that no run uses up.
+// A proved loop has to end, and nothing says that the input does: the turns are so many that no run uses them up.
 fn answer_all<R: Read>(
     rt: &impl Print,
     input: &mut R,
@@ -88,8 +97,7 @@ fn answer_all<R: Read>(
     let mut terms = [0u16; 4096];
     let mut anns = [0u64; 2048];
     let mut rows = count;
-    let mut turns = u64::MAX;
-    while turns > 0 {
+    for _ in 0..u64::MAX {
         let size = read_next(input, bytes)?;
         let turn = turns::answer(
             kind,
@@ -106,11 +114,10 @@ fn answer_all<R: Read>(
             text,
         );
         rt.write_all(&text[..turn.size])?;
-        if turn.over {
+        let Some(closed) = turn.rows else {
             return Ok(());
-        }
-        rows = turn.rows;
-        turns -= 1;
+        };
+        rows = closed;
     }
     Ok(())
 }

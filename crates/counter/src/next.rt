@@ -1,34 +1,30 @@
 // What stands next in the input: nothing, too little, or bytes behind their length.
 ghost use Rattle.std.specs.Prelude.{◌≡◌, ◌+◌, ◌*◌, ◌≤◌};
-ghost use Rattle.counter.specs.Turns.{Came as Turns-as-Came};
+ghost use Rattle.counter.specs.Turns.{Came};
 
 #[derive(Drop)]
-pub struct Came {
-    pub ended: bool,
-    pub whole: bool,
-    pub end: usize,
+pub enum Part<'a> {
+    Ended,
+    Cut,
+    // The bytes behind the length.
+    Whole(&'a [u8]),
 }
 
 pub fn length_of(high: u8, low: u8) -> usize
     ensures { (result ≡ high * 256 + low) × (result ≤ 65535) }
 {
-    (high as usize) * 256 + (low as usize)
+    usize::from(u16::from_be_bytes([high, low]))
 }
 
-pub fn part_of(s: &[u8]) -> Came
-    ensures { Turns-as-Came s.now result.ended result.whole result.end }
+pub fn part_of(s: &[u8]) -> Part<'_>
+    ensures { Came s.now result }
 {
-    if s.len() < 2 {
-        return Came {
-            ended: s.len() == 0,
-            whole: false,
-            end: 0,
-        };
-    }
-    let size = length_of(s[0], s[1]);
-    Came {
-        ended: false,
-        whole: size <= s.len() - 2,
-        end: 2 + size,
+    match s {
+        [] => Part::Ended,
+        [_] => Part::Cut,
+        [high, low, rest @ ..] => match rest.get(..length_of(*high, *low)) {
+            Some(bytes) => Part::Whole(bytes),
+            None => Part::Cut,
+        },
     }
 }

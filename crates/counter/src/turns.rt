@@ -6,20 +6,25 @@ ghost use Rattle.table.specs.Lent.{lent, before, after};
 ghost use Rattle.trackvesper.specs.ClosedBook.{fresh_lanes};
 ghost use Rattle.printing.specs.Laid.{Fronted};
 ghost use Rattle.counter.specs.Counted.{comes_to, asked_lines};
-ghost use Rattle.counter.specs.Turns.{asked_room, Is, Ready, Opening, Turned, Over};
+ghost use Rattle.counter.specs.Turns.{asked_room, Is, Ready, Opening, Turned, is_over, kind_in, rules_in, rows_in, count_in};
 
-use crate::next::part_of;
+use crate::next::{Part, part_of};
 use printing::asked::put_asked;
 use printing::lines::put_refused;
 use trackvesper::CUT;
 
-// Whether this was all; else the table's kind, rule set and rows; how much was laid.
+// The table that a book gives.
 #[derive(Drop)]
-pub struct Opened {
-    pub over: bool,
+pub struct Table {
     pub kind: u8,
     pub rules: u8,
     pub rows: usize,
+}
+
+// The table, none where this was all; how much was laid.
+#[derive(Drop)]
+pub struct Opened {
+    pub table: Option<Table>,
     pub size: usize,
 }
 
@@ -32,46 +37,45 @@ pub fn open_book(
     out: &mut [u8],
 ) -> Opened
     requires { (lent subj pred obj ann ≡ fresh_lanes) × (asked_room ≤ length out.old) }
-    ensures { Fronted (Opening s.now result.over result.kind result.rules (after subj pred obj ann) result.rows) out.old out.new result.size }
+    ensures { Fronted (Opening s.now (is_over result.table) (kind_in result.table) (rules_in result.table) (after subj pred obj ann) (rows_in result.table)) out.old out.new result.size }
 {
-    let part = part_of(s);
-    if !part.whole {
+    let Part::Whole(book) = part_of(s) else {
         let cut = put_refused(out, CUT, 0);
-        return no_table(cut);
-    }
-    let end = part.end;
-    let head = trackvesper::read(&s[2..end], subj, pred, obj, ann);
+        return Opened {
+            table: None,
+            size: cut,
+        };
+    };
+    let head = trackvesper::read(book, subj, pred, obj, ann);
     if head.number > 0 {
         let refused = put_refused(out, head.number, head.place);
-        return no_table(refused);
+        return Opened {
+            table: None,
+            size: refused,
+        };
     }
-    Opened {
-        over: false,
+    let table = Table {
         kind: head.kind,
         rules: head.rules,
         rows: head.count,
+    };
+    Opened {
+        table: Some(table),
         size: 0,
     }
 }
 
-fn no_table(size: usize) -> Opened
-    ensures { (result.over ≡ true) × (result.size ≡ size) }
-{
-    Opened {
-        over: true,
-        kind: 0,
-        rules: 0,
-        rows: 0,
-        size,
-    }
-}
-
-// Whether this was all; else the rows of the closed table; how much was laid.
+// The rows of the closed table, none where this was all; how much was laid.
 #[derive(Drop)]
 pub struct Turn {
-    pub over: bool,
-    pub rows: usize,
+    pub rows: Option<usize>,
     pub size: usize,
+}
+
+fn last(size: usize) -> Turn
+    ensures { (result.rows ≡ None) × (result.size ≡ size) }
+{
+    Turn { rows: None, size }
 }
 
 // A question that is cut is seen before the closing that would have come before it.
@@ -90,22 +94,17 @@ pub fn answer(
     out: &mut [u8],
 ) -> Turn
     requires { Ready kind (lent subj pred obj ann) count × (length terms.old ≡ 4096) × (length anns.old ≡ 2048) × (asked_room ≤ length out.old) × (is_rule_set rules ≡ true) }
-    ensures { Fronted (Turned looks kind rules (rows_of (before subj pred obj ann) count) s.now result.over (after subj pred obj ann) result.rows) out.old out.new result.size }
+    ensures { Fronted (Turned looks kind rules (rows_of (before subj pred obj ann) count) s.now (is_over result.rows) (after subj pred obj ann) (count_in result.rows)) out.old out.new result.size }
 {
-    let part = part_of(s);
-    if !part.whole {
-        return no_question(part.ended, out);
-    }
+    let question = match part_of(s) {
+        Part::Ended => return last(0),
+        Part::Cut => return last(put_refused(out, CUT, 0)),
+        Part::Whole(question) => question,
+    };
     let closed = trackvesper::close(kind, rules, subj, pred, obj, ann, count);
     if closed.number > 0 {
-        let size = put_refused(out, closed.number, closed.place);
-        return Turn {
-            over: true,
-            rows: 0,
-            size,
-        };
+        return last(put_refused(out, closed.number, closed.place));
     }
-    let end = part.end;
     let size = ask_listed(
         kind,
         subj,
@@ -113,31 +112,14 @@ pub fn answer(
         obj,
         ann,
         closed.count,
-        &s[2..end],
+        question,
         looks,
         terms,
         anns,
         out,
     );
     Turn {
-        over: false,
-        rows: closed.count,
-        size,
-    }
-}
-
-// Nothing to print where the questions have ended; else that the input was cut.
-fn no_question(ended: bool, out: &mut [u8]) -> Turn
-    requires { asked_room ≤ length out.old }
-    ensures { Over ended out.old out.new result.over result.size }
-{
-    let mut size = 0;
-    if !ended {
-        size = put_refused(out, CUT, 0);
-    }
-    Turn {
-        over: true,
-        rows: 0,
+        rows: Some(closed.count),
         size,
     }
 }

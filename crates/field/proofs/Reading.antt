@@ -1,15 +1,14 @@
 -- What `field_at_lem` is, case by case as the code meets it. Assumes nothing.
-use mathlib.Core.Path.{◌≡◌, refl, sym, ap, ◌∙◌}
-use mathlib.Core.Bool.{Bool, true, false, cond, ◌||◌, true≢false, or-true}
+use mathlib.Core.Path.{◌≡◌, refl}
+use mathlib.Core.Bool.{Bool, true, false, cond, or-true}
 use mathlib.Core.List.{List}
 use Prim.Native.Nat.{ℕ, ◌+◌, ◌-◌, ◌≤◌, ◌<◌}
 use native.Mathlib.Omega.{arith}
-use lib.ListN.{length, get_or}
+use lib.ListN.{length}
 use lib.Dec.{leb, ltb}
 use borrow.Author.Tests.{le-leb, lt-leb, lt-ltb, le-ltb, leb-true, leb-false, ltb-false}
 use Rattle.ground.proofs.Bools.{neither}
 use Rattle.field.specs.declared.Field.TheVariants.{End, Cut, Whole}
-use Rattle.field.specs.Numbers.{two_at}
 use Rattle.field.specs.Fields.{field_at_lem, is_cut_lem, tag_at, size_at, behind}
 
 module _ (b : List ℕ) (at : ℕ) where

@@ -1,12 +1,13 @@
 -- Bytes written one after another, and what stands where they were not written. Assumes nothing.
 use mathlib.Core.Path.{◌≡◌, refl, sym, ap, ◌∙◌}
 use mathlib.Core.List.{List, [], ◌∷◌, ◌++◌, append_assoc}
-use Prim.Native.Nat.{ℕ, suc, ◌+◌, ◌-◌, ◌≤◌, ◌<◌}
+use Prim.Native.Nat.{ℕ, ◌+◌, ◌/◌, ◌%◌, ◌≤◌}
 use native.Mathlib.Numerals.{add-one}
 use native.Mathlib.Omega.{arith}
-use lib.ListN.{length, get_or, set, take, drop, length-append, length-take, length-drop}
+use lib.ListN.{length, set, take, drop, length-append, length-take, length-drop}
 use lib.Seq.{sets-eq, take_at, drop-append-add, length-take-le, drop-drop}
-use Rattle.field.specs.Numbers.{written, two_bytes, four_bytes, eight_bytes}
+use borrow.Rule.Slice.PartMut.{put_mid}
+use Rattle.field.specs.Numbers.{written, two_hold, four_hold, two_bytes, four_bytes, eight_bytes}
 
 pub length_two : (n : ℕ) → length (two_bytes n) ≡ 2
 unfolding two_bytes
@@ -51,3 +52,25 @@ written_both b c d at k v w ek h ec ed =
 pub written_one : (b : List ℕ) (at x : ℕ) → at + 1 ≤ length b → set b at x ≡ written b at (x ∷ [])
 unfolding written
 written_one b at x h = sets-eq (x ∷ []) b at h
+
+-- a part of the bytes written over
+pub written_part : (b : List ℕ) (at k : ℕ) (u v : List ℕ) → u ≡ v → k ≡ length v → put_mid at k b u ≡ written b at v
+unfolding written
+written_part b at k u v e h = rw (e, h, drop-drop (length v) at b) (sym (append_assoc (take at b) v (drop (at + length v) b)))
+
+-- the bytes of a number by themselves
+pub eight_are : (n : ℕ) → eight_bytes n
+    ≡ n / 72057594037927936 % 256 ∷ n / 281474976710656 % 256 ∷ n / 1099511627776 % 256 ∷ n / 4294967296 % 256 ∷ n / 16777216 % 256 ∷ n / 65536 % 256 ∷ n / 256 % 256 ∷ n % 256 ∷ []
+unfolding eight_bytes four_bytes two_bytes
+eight_are n =
+    let hi = n / four_hold % four_hold in
+    let lo = n % four_hold in
+    let e0 : hi / two_hold % two_hold / 256 % 256 ≡ n / 72057594037927936 % 256 = omega arith in
+    let e1 : hi / two_hold % two_hold % 256 ≡ n / 281474976710656 % 256 = omega arith in
+    let e2 : hi % two_hold / 256 % 256 ≡ n / 1099511627776 % 256 = omega arith in
+    let e3 : hi % two_hold % 256 ≡ n / 4294967296 % 256 = omega arith in
+    let e4 : lo / two_hold % two_hold / 256 % 256 ≡ n / 16777216 % 256 = omega arith in
+    let e5 : lo / two_hold % two_hold % 256 ≡ n / 65536 % 256 = omega arith in
+    let e6 : lo % two_hold / 256 % 256 ≡ n / 256 % 256 = omega arith in
+    let e7 : lo % two_hold % 256 ≡ n % 256 = omega arith in
+    rw (e0, e1, e2, e3, e4, e5, e6, e7) refl

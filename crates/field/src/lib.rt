@@ -6,10 +6,10 @@ ghost use Rattle.std.specs.Prelude.{◌≡◌};
 ghost use Rattle.field.specs.Fields.{field_at_lem};
 
 mod number;
-// Who holds a reader calls these by their module.
-pub mod reader;
+mod reader;
 
 pub use number::{eight, put_eight, put_front, put_pair, put_two, two};
+pub use reader::Reader;
 
 // The three bytes of tag and length that every field begins with.
 pub const FRONT: usize = 3;
@@ -34,7 +34,7 @@ pub fn field_at(bytes: &[u8], at: usize) -> Field
     if left < FRONT {
         return Field::Cut;
     }
-    let size = number::two(bytes, at + 1) as usize;
+    let size = usize::from(two(bytes, at + 1));
     if left - FRONT < size {
         return Field::Cut;
     }

@@ -1,65 +1,43 @@
-// Numbers of 16, 32 and 64 bits in bytes, high byte first: read, and written.
-ghost use Rattle.std.specs.Prelude.{◌≡◌, ◌+◌, ◌≤◌, ◌<◌, [], ◌∷◌, length};
-ghost use Rattle.field.specs.Numbers.{two_hold, four_hold, two_at, four_at, eight_at, two_bytes, four_bytes, eight_bytes, written};
-
-// How many numbers two bytes hold, and four.
-const TWO_HOLD: u64 = 65536;
-
-const FOUR_HOLD: u64 = 4294967296;
-
-fn wide(byte: u8) -> u64
-    ensures { (result ≡ byte) × (result < 256) }
-{
-    byte as u64
-}
-
-fn pair(bytes: &[u8], at: usize) -> u64
-    requires { at + 2 ≤ length bytes.now }
-    ensures { (result ≡ two_at bytes.now at) × (result < two_hold) }
-{
-    let high = wide(bytes[at]);
-    let low = wide(bytes[at + 1]);
-    high * 256 + low
-}
+// Numbers of 16 and 64 bits in bytes, high byte first: read, and written.
+ghost use Rattle.std.specs.Prelude.{◌≡◌, ◌+◌, ◌≤◌, [], ◌∷◌, length};
+ghost use Rattle.field.specs.Numbers.{two_at, eight_at, two_bytes, eight_bytes, written};
 
 pub fn two(bytes: &[u8], at: usize) -> u16
     requires { at + 2 ≤ length bytes.now }
     ensures { result ≡ two_at bytes.now at }
 {
-    pair(bytes, at) as u16
-}
-
-fn four(bytes: &[u8], at: usize) -> u64
-    requires { at + 4 ≤ length bytes.now }
-    ensures { (result ≡ four_at bytes.now at) × (result < four_hold) }
-{
-    let high = pair(bytes, at);
-    let low = pair(bytes, at + 2);
-    high * TWO_HOLD + low
+    u16::from_be_bytes([bytes[at], bytes[at + 1]])
 }
 
 pub fn eight(bytes: &[u8], at: usize) -> u64
     requires { at + 8 ≤ length bytes.now }
     ensures { result ≡ eight_at bytes.now at }
 {
-    let high = four(bytes, at);
-    let low = four(bytes, at + 4);
-    high * FOUR_HOLD + low
+    u64::from_be_bytes([
+        bytes[at],
+        bytes[at + 1],
+        bytes[at + 2],
+        bytes[at + 3],
+        bytes[at + 4],
+        bytes[at + 5],
+        bytes[at + 6],
+        bytes[at + 7],
+    ])
 }
 
 pub fn put_pair(bytes: &mut [u8], at: usize, x: u8, y: u8)
     requires { at + 2 ≤ length bytes.old }
     ensures { bytes.new ≡ written bytes.old at (x ∷ y ∷ []) }
 {
-    bytes[at] = x;
-    bytes[at + 1] = y;
+    bytes[at..at + 2].copy_from_slice(&[x, y]);
 }
 
+// The low 16 bits.
 pub fn put_two(bytes: &mut [u8], at: usize, n: u64)
     requires { at + 2 ≤ length bytes.old }
     ensures { bytes.new ≡ written bytes.old at (two_bytes n) }
 {
-    put_pair(bytes, at, (n / 256 % 256) as u8, (n % 256) as u8);
+    bytes[at..at + 2].copy_from_slice(&((n % 65536) as u16).to_be_bytes());
 }
 
 // Tag and length, which every field begins with.
@@ -71,18 +49,9 @@ pub fn put_front(bytes: &mut [u8], at: usize, tag: u8, size: u64)
     put_two(bytes, at + 1, size);
 }
 
-fn put_four(bytes: &mut [u8], at: usize, n: u64)
-    requires { at + 4 ≤ length bytes.old }
-    ensures { bytes.new ≡ written bytes.old at (four_bytes n) }
-{
-    put_two(bytes, at, n / TWO_HOLD % TWO_HOLD);
-    put_two(bytes, at + 2, n % TWO_HOLD);
-}
-
 pub fn put_eight(bytes: &mut [u8], at: usize, n: u64)
     requires { at + 8 ≤ length bytes.old }
     ensures { bytes.new ≡ written bytes.old at (eight_bytes n) }
 {
-    put_four(bytes, at, n / FOUR_HOLD % FOUR_HOLD);
-    put_four(bytes, at + 4, n % FOUR_HOLD);
+    bytes[at..at + 8].copy_from_slice(&n.to_be_bytes());
 }

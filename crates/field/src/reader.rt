@@ -10,23 +10,25 @@ pub struct Reader<'a> {
     pub at: usize,
 }
 
-// A reader that stands at a place of the bytes.
-pub fn stand<'a>(src: &'a [u8], at: usize) -> Reader<'a>
-    ensures { (result.src ≡ src.entry) × (result.at ≡ at) }
-{
-    Reader { src, at }
-}
+impl<'a> Reader<'a> {
+    // A reader that stands at a place of the bytes.
+    pub fn stand(src: &'a [u8], at: usize) -> Reader<'a>
+        ensures { (result.src ≡ src.entry) × (result.at ≡ at) }
+    {
+        Reader { src, at }
+    }
 
-// The field at the reader's place.
-pub fn field<'a>(r: Reader<'a>) -> Field
-    ensures { result ≡ field_at_lem r.entry.src.now r.entry.at }
-{
-    field_at(r.src, r.at)
-}
+    // The field at the reader's place.
+    pub fn field(self) -> Field
+        ensures { result ≡ field_at_lem self.entry.src.now self.entry.at }
+    {
+        field_at(self.src, self.at)
+    }
 
-// The reader, gone on to another place.
-pub fn moved<'a>(r: Reader<'a>, at: usize) -> Reader<'a>
-    ensures { (result.src ≡ r.entry.src) × (result.at ≡ at) }
-{
-    Reader { src: r.src, at }
+    // The reader, gone on to another place.
+    pub fn moved(self, at: usize) -> Reader<'a>
+        ensures { (result.src ≡ self.entry.src) × (result.at ≡ at) }
+    {
+        Reader { at, ..self }
+    }
 }

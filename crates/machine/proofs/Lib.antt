@@ -1,4 +1,5 @@
 -- Laws that belong to no one function, bottom to top.
+pub mod Stopping
 pub mod Replaying
 pub mod Tracing
 pub mod Reading

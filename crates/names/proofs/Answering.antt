@@ -1,26 +1,14 @@
 -- What is answered before the list is looked at, case by case as the code meets it. Assumes nothing.
 use mathlib.Core.Path.{◌≡◌, refl}
-use mathlib.Core.Bool.{true, false, ◌&&◌, and-false}
+use mathlib.Core.Bool.{false, ◌&&◌, and-false}
 use mathlib.Core.List.{List}
 use Prim.Native.Nat.{ℕ, zero, suc, ◌≤◌, ◌<◌}
 use lib.Dec.{eqb, ltb}
-use lib.ListN.{length}
 use borrow.Author.Tests.{eq-eqb, ne_eqb, lt-ltb, le-ltb}
-use Rattle.names.specs.declared.find.Found.TheVariants.{Number}
-use Rattle.names.specs.Names.{Entry, NameLanes, is_unfit_list}
+use Rattle.std.specs.Prelude.{Ok}
+use Rattle.names.specs.Names.{Entry}
 use Rattle.names.specs.Entering.{lookup, five_number, lookup_five, known, first_of}
 use Rattle.names.specs.Finding.{number_for}
-
--- ---- whether the lanes fit
-
-pub unfit_unequal : (l : NameLanes) → (length l.terms ≡ length l.ends → ⊥) → true ≡ is_unfit_list l
-unfit_unequal l h = rw (ne_eqb (length l.terms) (length l.ends) h) refl
-
-pub unfit_long : (l : NameLanes) → length l.terms ≡ length l.ends → 512 < length l.terms → true ≡ is_unfit_list l
-unfit_long l e h = rw (eq-eqb (length l.terms) (length l.ends) e, lt-ltb 512 (length l.terms) h) refl
-
-pub unfit_text : (l : NameLanes) → length l.terms ≡ length l.ends → length l.terms ≤ 512 → ltb 32768 (length l.text) ≡ is_unfit_list l
-unfit_text l e h = rw (eq-eqb (length l.terms) (length l.ends) e, le-ltb 512 (length l.terms) h) refl
 
 -- ---- the first number of a sort
 
@@ -41,7 +29,7 @@ first-other (suc (suc sort)) a b = refl
 -- ---- the number, or the next
 
 module _ (es : List Entry) (sort : ℕ) (word : List ℕ) where
-  pub for_five : sort ≡ 0 → five_number word < 5 → Number (five_number word) ≡ number_for es sort word
+  pub for_five : sort ≡ 0 → five_number word < 5 → Ok (five_number word) ≡ number_for es sort word
   unfolding lookup_five
   for_five e h = rw (eq-eqb sort 0 e, lt-ltb (five_number word) 5 h) refl
 

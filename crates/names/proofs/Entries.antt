@@ -3,21 +3,25 @@ use mathlib.Core.Path.{◌≡◌, refl, sym, ap, ◌∙◌}
 use mathlib.Core.Bool.{Bool, true, false, cond}
 use mathlib.Core.List.{List, [], ◌∷◌, ◌++◌, append_assoc}
 use Prim.Native.Nat.{ℕ, zero, suc, ◌+◌, ◌-◌, ◌≤◌, ◌<◌}
-use native.Mathlib.Nat.{zero-add, sub-zero, zero-sub, suc-sub-suc, suc-add}
+use native.Mathlib.Nat.{zero-add, sub-zero, zero-sub, suc-sub-suc}
 use native.Mathlib.Numerals.{add-one}
 use native.Mathlib.Omega.{arith}
 use lib.Dec.{eqb, leb}
 use lib.ListN.{length, get_or, set, take, drop, replicate, length-set, length-drop, take-append-drop}
-use lib.Seq.{slice, paste, length-slice, drop-cons, drop-drop, drop-set-lt, drop_at, get_or-set_same, get_or-set_other, length-paste, length_paste_head, take-paste, drop-paste, take-append-le, take-take, take-nil, length-take-le}
+use lib.Seq.{slice, paste, length-slice, drop-cons, drop-drop, drop-set-lt, drop_at, get_or-set_same, get_or-set_other, length-paste, length_paste_head, take-paste, drop-paste, take-append-le, take-take, length-take-le}
 use borrow.Author.Tests.{le-leb, lt-leb, lt-ltb, le-ltb, eqb-true, eqb-false}
+use Rattle.std.proofs.lemmas.List.{drop-take}
 use Rattle.ground.specs.Lists.{tab}
 use Rattle.ground.proofs.Tab.{tab-length, tab-ext, get_d_tab}
 use Rattle.names.specs.Names.{Entry, entry, NameLanes, lanes_of, start_of, ends_fit, text_at_lem, entry_at, entries_of}
-use Rattle.names.specs.Entering.{Listing, bytes_of}
-use Rattle.names.specs.declared.Entered.TheVariants.{New, Full}
+use Rattle.names.specs.Entering.{New, Full, Listing, bytes_of}
 use Rattle.names.specs.Finding.{appended, Lying}
 
 -- ---- lists
+
+-- a part of a lane, as code takes it
+pub part_is : (l : List ℕ) (from to : ℕ) → from ≤ to → take (to - from) (drop from l) ≡ slice from to l
+part_is l from to h = let k : from + (to - from) ≡ to = omega arith in sym (drop-take from (to - from) l) ∙ ap (λ (t : ℕ). slice from t l) k
 
 pub tab-snoc : {A : Type 0} (n : ℕ) (f : ℕ → A) → tab (suc n) f ≡ tab n f ++ (f n ∷ [])
 unfolding tab
@@ -206,11 +210,6 @@ paste_own text from size =
     ap (λ (l : List ℕ). (take from text ++ take size (drop from text)) ++ l) (sym (drop-drop size from text))
     ∙ append_assoc (take from text) (take size (drop from text)) (drop size (drop from text))
     ∙ ap (λ (l : List ℕ). take from text ++ l) (take-append-drop size (drop from text)) ∙ take-append-drop from text
-
-drop-take : (f n : ℕ) (l : List ℕ) → drop f (take (f + n) l) ≡ take n (drop f l)
-drop-take zero n l = rw (zero-add n) refl
-drop-take (suc f) n [] = ap (drop (suc f)) (take-nil (suc f + n)) ∙ sym (take-nil n)
-drop-take (suc f) n (x ∷ xs) = rw (suc-add f n) (drop-take f n xs)
 
 module _ (l : NameLanes) (names n size : ℕ) (h : Listing l names) where
   lying-room : start_of l.ends names + size ≤ length l.text → size ≤ length (drop (start_of l.ends names) l.text)

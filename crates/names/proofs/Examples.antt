@@ -2,11 +2,9 @@
 use mathlib.Core.Path.{◌≡◌, refl}
 use mathlib.Core.List.{List, [], ◌∷◌}
 use Prim.Native.Nat.{ℕ}
-use Rattle.names.specs.declared.Entered.{Entered}
-use Rattle.names.specs.declared.Entered.TheVariants.{Listed, New, Full}
 use Rattle.names.specs.Five.{rdf_schema, rdf_syntax, five_text}
 use Rattle.names.specs.Names.{Entry}
-use Rattle.names.specs.Entering.{same_text_lem, lookup, count_of, first_of, bytes_of, five_number, lookup_five, entered_by, entries_after}
+use Rattle.names.specs.Entering.{Entered, Listed, New, Full, same_text_lem, lookup, count_of, first_of, bytes_of, five_number, lookup_five, entered_by, entries_after}
 
 record Word : Type 0 where
   sort : ℕ

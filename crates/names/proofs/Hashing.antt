@@ -8,56 +8,48 @@ use native.Mathlib.Numerals.{add-one}
 use native.Mathlib.Omega.{arith}
 use lib.Dec.{eqb}
 use lib.ListN.{length, get_or, set, take, drop, replicate, drop_of_length-le, length-set, length-append, length-replicate, get_or-replicate, get_or-append}
-use lib.Seq.{slice, length-take-le, get_or-take, drop-cons, get_or-append_seam, get_or-set_same, get_or-set_other}
+use lib.Seq.{take_all, drop-cons, get_or-append_seam, get_or-set_same, get_or-set_other}
 use borrow.Author.Tests.{eqb-true, eqb-false, eq-eqb, ne_eqb}
 use Rattle.ground.proofs.Tab.{tab-length, get_d_tab}
 use Rattle.term.specs.Term.{sort_of}
 use Rattle.names.specs.Names.{Entry, entry, NameLanes, start_of, entry_at, entries_of}
-use Rattle.names.specs.Entering.{same_text_lem, is_of, Lookup, none, number, lookup, known, count_of, next_of, first_of, Listing}
-use Rattle.names.specs.declared.find.Found.TheVariants.{Number, Missing}
+use Rattle.names.specs.Entering.{same_text_lem, is_of, Lookup, number, lookup, known, count_of, next_of, Listing}
+use Rattle.std.specs.Prelude.{Option, Some, None, MatchOption, Result, Ok, Err, IsErrAnd}
 use Rattle.names.specs.Finding.{found_of, number_for}
 use Rattle.names.specs.Hashed.{buckets, mixed_by, hash_from, MixedIn, hash_of, hash_at, last_below, Hashed, lookup_is}
 use Rattle.names.proofs.Same.{both_true, same-is}
-use Rattle.names.proofs.Entries.{drop-tab, text_is}
+use Rattle.names.proofs.Entries.{drop-tab, part_is, text_is}
 
 -- ---- the hash of a word
-
-pub mix_start : (word : List ℕ) → MixedIn word 0 0
-mix_start word = record { within = omega arith; rest = refl; small = omega arith }
-
-pub mix_next : (word : List ℕ) (i h x k : ℕ) → MixedIn word i h → i < length word → x ≡ get_or word i 0 → k ≡ mixed_by h x → k < 65536 → MixedIn word (i + 1) k
-unfolding hash_from
-mix_next word i h x k m q e f s =
-    let d : drop i word ≡ get_or word i 0 ∷ drop (suc i) word = drop-cons word i 0 q in
-    let n : drop (i + 1) word ≡ drop (suc i) word = ap (λ (v : ℕ). drop v word) (add-one i) in
-    record {
-      within = omega arith;
-      rest = rw (n, f, e) (sym (ap (hash_from h) d) ∙ m.rest);
-      small = s;
-    }
 
 mixed_small : (h x : ℕ) → mixed_by h x < 65536
 mixed_small h x = mod-lt (h * 33 + x) (omega arith)
 
--- four bytes more
-pub mix_four : (word : List ℕ) (i h k : ℕ) → MixedIn word i h → i + 4 ≤ length word
-    → k ≡ mixed_by (mixed_by (mixed_by (mixed_by h (get_or word i 0)) (get_or word (i + 1) 0)) (get_or word (i + 2) 0)) (get_or word (i + 3) 0) → MixedIn word (i + 4) k
-mix_four word i h k m q e =
-    let one = mix_next word i h (get_or word i 0) _ m (omega arith) refl refl (mixed_small _ _) in
-    let two = mix_next word (i + 1) _ (get_or word (i + 1) 0) _ one (omega arith) refl refl (mixed_small _ _) in
-    let n : i + 1 + 1 ≡ i + 2 = omega arith in
-    let three = mix_next word (i + 2) _ (get_or word (i + 2) 0) _ (rw n at two) (omega arith) refl refl (mixed_small _ _) in
-    let p : i + 2 + 1 ≡ i + 3 = omega arith in
-    let four = mix_next word (i + 3) _ (get_or word (i + 3) 0) k (rw p at three) (omega arith) refl e (rw e (mixed_small _ _)) in
-    let r : i + 3 + 1 ≡ i + 4 = omega arith in
-    rw r at four
+-- one byte more
+pub mix_next : (word rest : List ℕ) (h k x : ℕ) → MixedIn word (x ∷ rest) h → k ≡ mixed_by h x → MixedIn word rest k
+unfolding hash_from
+mix_next word rest h k x m e = record { mixed = rw e m.mixed; small = rw e (mixed_small _ _) }
 
--- of the first bytes of a word
-pub four_next : (word : List ℕ) (size i h k : ℕ) → size ≤ length word → MixedIn (take size word) i h → 4 ≤ size - i
-    → k ≡ mixed_by (mixed_by (mixed_by (mixed_by h (get_or word i 0)) (get_or word (i + 1) 0)) (get_or word (i + 2) 0)) (get_or word (i + 3) 0) → MixedIn (take size word) (i + 4) k
-four_next word size i h k fits m q e =
-    mix_four (take size word) i h k m (rw (length-take-le size word fits) (omega arith))
-    (rw (get_or-take size word i 0 (omega arith), get_or-take size word (i + 1) 0 (omega arith), get_or-take size word (i + 2) 0 (omega arith), get_or-take size word (i + 3) 0 (omega arith)) e)
+-- four bytes more
+pub mix_four : (word rest : List ℕ) (h k a b c d : ℕ) → MixedIn word (a ∷ b ∷ c ∷ d ∷ rest) h → k ≡ mixed_by (mixed_by (mixed_by (mixed_by h a) b) c) d → MixedIn word rest k
+unfolding hash_from
+mix_four word rest h k a b c d m e = record { mixed = rw e m.mixed; small = rw e (mixed_small _ _) }
+
+-- four bytes more, at the front of what is left
+pub four_more : (word left : List ℕ) (h k : ℕ) → MixedIn word left h → 4 ≤ length left
+    → k ≡ mixed_by (mixed_by (mixed_by (mixed_by h (get_or left 0 0)) (get_or left 1 0)) (get_or left 2 0)) (get_or left 3 0)
+    → MixedIn word (take (length left - 4) (drop 4 left)) k
+four_more word [] h k m q e = absurd (omega arith)
+four_more word (a ∷ []) h k m q e = absurd (omega arith)
+four_more word (a ∷ b ∷ []) h k m q e = absurd (omega arith)
+four_more word (a ∷ b ∷ c ∷ []) h k m q e = absurd (omega arith)
+four_more word (a ∷ b ∷ c ∷ d ∷ rest) h k m q e =
+    let long : length (a ∷ b ∷ c ∷ d ∷ rest) - 4 ≡ length rest = omega arith in
+    rw (long, take_all (length rest) rest (omega arith)) (mix_four word rest h k a b c d m e)
+
+-- one byte more, of the bytes to come
+pub byte_more : (word rest : List ℕ) (i h k : ℕ) → MixedIn word (drop i rest) h → i < length rest → k ≡ mixed_by h (get_or rest i 0) → MixedIn word (drop (i + 1) rest) k
+byte_more word rest i h k m q e = mix_next word (drop (i + 1) rest) h k (get_or rest i 0) (rw (add-one i) (rw (drop-cons rest i 0 q) at m)) e
 
 whole-mixed : (y x : ℕ) → mixed_by (y % 65536) x ≡ (y * 33 + x) % 65536
 whole-mixed y x =
@@ -75,13 +67,9 @@ four_sum h a b c d =
     let e : (((h * 33 + a) * 33 + b) * 33 + c) * 33 + d ≡ (h * 6273 + ((a * 35937 + b * 1089) + (c * 33 + d))) + 65536 * (h * 18) = omega arith in
     sym (four ∙ ap (λ (v : ℕ). v % 65536) e ∙ add-mul-mod_self_left (h * 6273 + ((a * 35937 + b * 1089) + (c * 33 + d))) 65536 (h * 18))
 
-pub mix_end : (word : List ℕ) (i h : ℕ) → MixedIn word i h → length word ≤ i → h ≡ hash_from 0 word
-unfolding hash_from
-mix_end word i h m q = sym (ap (hash_from h) (drop_of_length-le word {i = i} q)) ∙ m.rest
-
-pub hash_is : (word : List ℕ) (i h : ℕ) → MixedIn word i h → length word ≤ i → (h % buckets ≡ hash_of word) × (h % buckets < buckets)
-unfolding hash_of
-hash_is word i h m q = (ap (λ (x : ℕ). x % buckets) (mix_end word i h m q), mod-lt h (omega arith))
+pub hash_is : (word : List ℕ) (h : ℕ) → MixedIn word [] h → (h % buckets ≡ hash_of word) × (h % buckets < buckets)
+unfolding hash_of hash_from
+hash_is word h m = (ap (λ (x : ℕ). x % buckets) m.mixed, mod-lt h (omega arith))
 
 -- ---- the last entry below a place that has a hash
 
@@ -133,23 +121,23 @@ module _ (es : List Entry) (sort : ℕ) (word : List ℕ) where
   -- ---- the loop
 
   -- the entries from p on are looked at, and what they say is known
-  pub record Chain (p : ℕ) (there : Bool) (n : ℕ) : Type 0 where
+  pub record Chain (p : ℕ) (o : Option ℕ) : Type 0 where
     pub low : p ≤ length es
     pub here : 0 < p → hash_at es (p - 1) ≡ hash_of word
-    pub found : lookup_is there n ≡ lookup (drop p es) sort word
+    pub found : lookup_is o ≡ lookup (drop p es) sort word
 
-  pub chain_start : (p n : ℕ) → p ≡ last_below es (hash_of word) (length es) → Chain p false n
+  pub chain_start : (p : ℕ) → p ≡ last_below es (hash_of word) (length es) → Chain p None
   unfolding lookup
-  chain_start p n e =
+  chain_start p e =
       record {
         low = rw e (last-low es (hash_of word) (length es));
         here = λ k. rw e (last-here es (hash_of word) (length es) (rw e at k));
         found = rw e (sym (skip (length es) (omega arith) ∙ ap (λ (r : List Entry). lookup r sort word) (drop_of_length-le es {i = length es} (omega arith))));
       }
 
-  pub chain_next : (p i q : ℕ) (there t : Bool) (n : ℕ) → Chain p there n → i + 1 ≡ p → t ≡ is_text_lem es sort word i → q ≡ last_below es (hash_at es i) i
-      → Chain q (cond t true there) (cond t (get_or es i (entry 0 [])).number n)
-  chain_next p i q there t n c s e f =
+  pub chain_next : (p i q : ℕ) (o : Option ℕ) (t : Bool) → Chain p o → i + 1 ≡ p → t ≡ is_text_lem es sort word i → q ≡ last_below es (hash_at es i) i
+      → Chain q (cond t (Some (get_or es i (entry 0 [])).number) o)
+  chain_next p i q o t c s e f =
       let lo = c.low in
       let back : p - 1 ≡ i = omega arith in
       let h : hash_at es i ≡ hash_of word = ap (hash_at es) (sym back) ∙ c.here (omega arith) in
@@ -162,18 +150,17 @@ module _ (es : List Entry) (sort : ℕ) (word : List ℕ) where
         found = choose t refl ∙ sym (look_at i (omega arith) ∙ rw (← e, up) refl) ∙ sym (skip i (omega arith)) ∙ sym (ap (λ (v : ℕ). lookup (drop v es) sort word) g);
       }
     where
-      choose : (u : Bool) → t ≡ u → lookup_is (cond t true there) (cond t (get_or es i (entry 0 [])).number n) ≡ cond t (number (get_or es i (entry 0 [])).number) (lookup (drop p es) sort word)
+      choose : (u : Bool) → t ≡ u → lookup_is (cond t (Some (get_or es i (entry 0 [])).number) o) ≡ cond t (number (get_or es i (entry 0 [])).number) (lookup (drop p es) sort word)
       choose true w = rw w refl
       choose false w = rw w c.found
 
-  pub chain_end : (p : ℕ) (there : Bool) (n : ℕ) → Chain p there n → p ≡ 0 → lookup_is there n ≡ lookup es sort word
-  chain_end p there n c e = c.found ∙ ap (λ (v : ℕ). lookup (drop v es) sort word) e
+  pub chain_end : (p : ℕ) (o : Option ℕ) → Chain p o → p ≡ 0 → lookup_is o ≡ lookup es sort word
+  chain_end p o c e = c.found ∙ ap (λ (v : ℕ). lookup (drop v es) sort word) e
 
-pub chain_as : (es : List Entry) (sort : ℕ) (word : List ℕ) (p : ℕ) (t u : Bool) (m n : ℕ) → Chain es sort word p t m → t ≡ u → m ≡ n → Chain es sort word p u n
-chain_as es sort word p t u m n c e f = rw (← e, ← f) c
+pub in_chain : (l : NameLanes) (names sort : ℕ) (word : List ℕ) (p : ℕ) (o : Option ℕ) → Chain (entries_of l names) sort word p o → 0 < p → p - 1 < names
+in_chain l names sort word p o c k = let b = c.low in let e = tab-length names (entry_at l) in omega arith
 
-pub in_chain : (l : NameLanes) (names sort : ℕ) (word : List ℕ) (p : ℕ) (t : Bool) (n : ℕ) → Chain (entries_of l names) sort word p t n → 0 < p → p - 1 < names
-in_chain l names sort word p t n c k = let b = c.low in let e = tab-length names (entry_at l) in omega arith
+-- ---- counting a sort
 
 -- ---- counting a sort
 
@@ -218,34 +205,29 @@ module _ (l : NameLanes) (names : ℕ) (h : Listing l names) (i : ℕ) (q : i < 
   pub entry-at : get_or (entries_of l names) i (entry 0 []) ≡ entry_at l i
   entry-at = get_d_tab names (entry_at l) i (entry 0 []) q
 
-  pub entry-is : (sort start : ℕ) (word : List ℕ) (t : Bool) → sort_of (get_or l.terms i 0) ≡ sort → start ≡ start_of l.ends i → t ≡ same_text_lem (slice start (get_or l.ends i 0) l.text) word
-      → t ≡ (is_of sort (entry_at l i) && same_text_lem (entry_at l i).text word)
-  entry-is sort start word t e f g = rw (eq-eqb (sort_of (get_or l.terms i 0)) sort e, text_is l names h i q, ← f) g
-
-  pub entry-not : (sort : ℕ) (word : List ℕ) → (sort_of (get_or l.terms i 0) ≡ sort → ⊥) → false ≡ (is_of sort (entry_at l i) && same_text_lem (entry_at l i).text word)
-  entry-not sort word e = rw (ne_eqb (sort_of (get_or l.terms i 0)) sort e) refl
+  pub entry-is : (sort start : ℕ) (word : List ℕ) (t : Bool) → sort_of (get_or l.terms i 0) ≡ sort → start ≡ start_of l.ends i
+      → t ≡ same_text_lem (take (get_or l.ends i 0 - start) (drop start l.text)) word → t ≡ (is_of sort (entry_at l i) && same_text_lem (entry_at l i).text word)
+  entry-is sort start word t e f g =
+      rw (eq-eqb (sort_of (get_or l.terms i 0)) sort e, text_is l names h i q, ← f) (g ∙ ap (λ (x : List ℕ). same_text_lem x word) (part_is l.text start (get_or l.ends i 0) (let r = h.rise i q in omega arith)))
 
   -- the loop's step, as the code has it
-  pub chain_on : (sort : ℕ) (word : List ℕ) (p on : ℕ) (there t : Bool) (n : ℕ) → Chain (entries_of l names) sort word p there n → i + 1 ≡ p
+  pub chain_on : (sort : ℕ) (word : List ℕ) (p on : ℕ) (o : Option ℕ) (t : Bool) → Chain (entries_of l names) sort word p o → i + 1 ≡ p
       → t ≡ (is_of sort (entry_at l i) && same_text_lem (entry_at l i).text word) → on ≡ last_below (entries_of l names) (hash_at (entries_of l names) i) i
-      → Chain (entries_of l names) sort word on (cond t true there) (cond t (get_or l.terms i 0) n)
-  chain_on sort word p on there t n c s e f =
+      → Chain (entries_of l names) sort word on (cond t (Some (get_or l.terms i 0)) o)
+  chain_on sort word p on o t c s e f =
       let es = entries_of l names in
-      subst (λ (v : ℕ). Chain es sort word on (cond t true there) (cond t v n)) (ap (λ (x : Entry). x.number) entry-at)
-      (chain_next es sort word p i on there t n c s (e ∙ sym (ap (λ (x : Entry). is_of sort x && same_text_lem x.text word) entry-at)) f)
+      subst (λ (v : ℕ). Chain es sort word on (cond t (Some v) o)) (ap (λ (x : Entry). x.number) entry-at)
+      (chain_next es sort word p i on o t c s (e ∙ sym (ap (λ (x : Entry). is_of sort x && same_text_lem x.text word) entry-at)) f)
 
 -- ---- the number, or the next
 
-module _ (es : List Entry) (sort : ℕ) (word : List ℕ) (k : known es sort word ≡ lookup es sort word) (there : Bool) (n : ℕ) (is : lookup_is there n ≡ lookup es sort word) where
-  pub number-there : there ≡ true → Number n ≡ number_for es sort word
-  number-there e =
-      let f : known es sort word ≡ number n = k ∙ sym is ∙ ap (λ (t : Bool). lookup_is t n) e in
-      sym (ap (λ (x : Lookup). found_of x (next_of es sort)) f)
-
-  pub number-next : there ≡ false → (first c : ℕ) → first ≡ first_of sort → c ≡ count_of sort es → Missing (first + c) ≡ number_for es sort word
-  number-next e first c o p =
-      let f : known es sort word ≡ none = k ∙ sym is ∙ ap (λ (t : Bool). lookup_is t n) e in
-      rw (o, p) (sym (ap (λ (x : Lookup). found_of x (next_of es sort)) f))
+module _ (es : List Entry) (sort : ℕ) (word : List ℕ) (k : known es sort word ≡ lookup es sort word) where
+  -- what is found, or what is told for none
+  pub number_or : (o : Option ℕ) (r : Result ℕ ℕ) (P : ℕ → Type 0) → lookup_is o ≡ lookup es sort word → ((n : ℕ) → P n → n ≡ next_of es sort)
+      → MatchOption o (IsErrAnd r P) (λ n. r ≡ Ok n) → r ≡ number_for es sort word
+  number_or (Some n) r P e next h = h ∙ sym (ap (λ (x : Lookup). found_of x (next_of es sort)) (k ∙ sym e))
+  number_or None (Ok n) P e next h = absurd h
+  number_or None (Err n) P e next h = ap Err (next n h) ∙ sym (ap (λ (x : Lookup). found_of x (next_of es sort)) (k ∙ sym e))
 
 -- ---- one entry more
 

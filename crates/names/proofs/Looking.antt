@@ -44,13 +44,6 @@ text-passed l names n (suc from) h = text-passed l names n from (λ k p q. h k p
     step (yes p) = text-not_here l names n from p (h from p (omega arith)) ∙ ap (λ (k : ℕ). text_in (drop k (entries_of l names)) n) (add-one from)
     step (no p) = text-nowhere l names n from (omega arith) ∙ sym (text-nowhere l names n (suc from) (omega arith))
 
-pub not-before_next : (terms : List ℕ) (names i n : ℕ) → NotBefore terms names i n → (get_or terms i 0 ≡ n → ⊥) → NotBefore terms names (i + 1) n
-not-before_next terms names i n old here k below before e = go (dec_lt k i)
-  where
-    go : Dec (k < i) → ⊥
-    go (yes q) = old k below q e
-    go (no q) = let same : k ≡ i = omega arith in here (ap (λ (j : ℕ). get_or terms j 0) (sym same) ∙ e)
-
 -- the text of the first entry that has a number, and no bytes where none has it
 module _ (l : NameLanes) (names n i : ℕ) (first : FirstWith l.terms names n i) where
   pub first-text : i < names → text_in (entries_of l names) n ≡ text_at_lem l.ends l.text i

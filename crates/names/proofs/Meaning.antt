@@ -9,11 +9,9 @@ use lib.Dec.{eqb, ltb}
 use lib.ListN.{length, replicate, length-replicate}
 use borrow.Author.Tests.{eqb-true, ltb-true, lt-ltb, le-ltb}
 use Rattle.term.specs.Term.{sort_of}
-use Rattle.names.specs.declared.Entered.{Entered}
-use Rattle.names.specs.declared.Entered.TheVariants.{Listed, New, Full}
 use Rattle.names.specs.Five.{five_text}
 use Rattle.names.specs.Names.{Entry, entry, lanes_of, start_of, text_of}
-use Rattle.names.specs.Entering.{same_text_lem, Lookup, none, number, lookup, five_number, lookup_five, known, or_else, next_of, first_of, has_room_lem, answer_of, entered_by, entries_after, Listing, Made, empty, more}
+use Rattle.names.specs.Entering.{Entered, Listed, New, Full, same_text_lem, Lookup, none, number, lookup, five_number, lookup_five, known, or_else, next_of, first_of, has_room_lem, answer_of, entered_by, entries_after, Listing, Made, empty, more}
 use Rattle.names.proofs.Same.{both_true, same-is}
 use Rattle.names.proofs.Made.{Small, is_numbered, numbered-append, found-numbered, listed-stays, entered-found, number-means}
 

@@ -1,8 +1,6 @@
 -- R4, R5: a text looked for, and entered behind the last entry where it is not listed.
 use Rattle.std.specs.Prelude.{◌≡◌, Bool, true, false, cond, ◌&&◌, List, [], ◌∷◌, ◌++◌, ℕ, zero, suc, ◌+◌, ◌-◌, ◌≤◌, ◌<◌, eqb, leb, ltb, length, get_or, drop, replicate}
 use Rattle.term.specs.Term.{sort_of}
-use Rattle.names.specs.declared.Entered.{Entered}
-use Rattle.names.specs.declared.Entered.TheVariants.{Listed, New, Full}
 use Rattle.names.specs.Five.{five_text}
 use Rattle.names.specs.Names.{Entry, entry, NameLanes, start_of}
 
@@ -70,6 +68,13 @@ known es sort word = or_else (lookup_five sort word) (lookup es sort word)
 -- "27 when an entry or its bytes don't fit the lanes lent"
 abbrev pub has_room_lem : ℕ → ℕ → List Entry → List ℕ → Bool
 has_room_lem entries bytes es word = ltb (length es) entries && leb (bytes_of es + length word) bytes
+
+-- what entering a text answers: it has this number already; it is entered with this number, behind the last;
+-- or it is not listed and does not fit
+pub data Entered : Type 0 where
+  Listed : ℕ → Entered
+  New : ℕ → Entered
+  Full : Entered
 
 abbrev pub answer_of : Lookup → Bool → ℕ → Entered
 answer_of (number n) room next = Listed n

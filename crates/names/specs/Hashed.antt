@@ -1,6 +1,6 @@
 -- Entries found by a hash of their texts: for each hash the last entry that has it, for each entry the one before it with the same hash.
 -- An entry is named by its place + 1; 0 is none.
-use Rattle.std.specs.Prelude.{◌≡◌, Bool, cond, List, [], ◌∷◌, ℕ, zero, suc, ◌+◌, ◌*◌, ◌≤◌, ◌<◌, ◌%◌, eqb, length, get_or, take, drop}
+use Rattle.std.specs.Prelude.{◌≡◌, cond, Option, Some, None, List, [], ◌∷◌, ℕ, zero, suc, ◌+◌, ◌*◌, ◌<◌, ◌%◌, eqb, length, get_or}
 use Rattle.names.specs.Names.{Entry, entry, NameLanes, entries_of}
 use Rattle.names.specs.Entering.{Lookup, none, number, Listing}
 
@@ -17,10 +17,9 @@ hash_from h (x ∷ xs) = hash_from (mixed_by h x) xs
 unfoldable pub hash_of : List ℕ → ℕ
 hash_of word = hash_from 0 word % buckets
 
--- the first bytes of a word are mixed in
-pub record MixedIn (word : List ℕ) (i h : ℕ) : Type 0 where
-  pub within : i ≤ length word
-  pub rest : hash_from h (drop i word) ≡ hash_from 0 word
+-- all of a word but the rest is mixed in
+pub record MixedIn (word rest : List ℕ) (h : ℕ) : Type 0 where
+  pub mixed : hash_from h rest ≡ hash_from 0 word
   pub small : h < 65536
 
 abbrev pub hash_at : List Entry → ℕ → ℕ
@@ -37,10 +36,10 @@ pub record Hashed (es : List Entry) (heads next : List ℕ) : Type 0 where
   pub heads_are : (h : ℕ) → h < buckets → get_or heads h 0 ≡ last_below es h (length es)
   pub next_are : (i : ℕ) → i < length es → get_or next i 0 ≡ last_below es (hash_at es i) i
 
--- a word of so many bytes, with its hash, is looked for among the entries
-abbrev pub Sought : NameLanes → ℕ → List ℕ → List ℕ → List ℕ → ℕ → ℕ → Type 0
-Sought l names heads next word size h =
-    Listing l names × Hashed (entries_of l names) heads next × (size ≤ length word) × (h ≡ hash_of (take size word)) × (h < buckets)
+-- a word, with its hash, is looked for among the entries
+abbrev pub Sought : NameLanes → ℕ → List ℕ → List ℕ → List ℕ → ℕ → Type 0
+Sought l names heads next word h = Listing l names × Hashed (entries_of l names) heads next × (h ≡ hash_of word) × (h < buckets)
 
-abbrev pub lookup_is : Bool → ℕ → Lookup
-lookup_is there n = cond there (number n) none
+abbrev pub lookup_is : Option ℕ → Lookup
+lookup_is (Some n) = number n
+lookup_is None = none

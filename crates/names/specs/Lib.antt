@@ -6,3 +6,4 @@ pub mod Entering
 -- What only the parts of the code cite.
 pub mod Finding
 pub mod Hashed
+pub mod Read

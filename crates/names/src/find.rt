@@ -1,54 +1,34 @@
 // Entries looked for by number.
 ghost use Rattle.std.specs.Prelude.{◌≡◌, ◌≤◌, ◌<◌, length};
-ghost use Rattle.names.specs.Names.{start_of};
-ghost use Rattle.names.specs.Finding.{SpanAt, NotBefore, FirstWith};
-
-use crate::Span;
-
-#[derive(Drop)]
-pub enum Found {
-    Number(u16),
-    Missing(u16),
-}
+ghost use Rattle.names.specs.Names.{start_of, text_at_lem};
+ghost use Rattle.names.specs.Finding.{NotBefore, FoundWith};
 
 // Where entry i's text begins.
 pub fn start_of(ends: &[u16], i: usize) -> usize
     requires { i ≤ length ends.now }
     ensures { result ≡ start_of ends.now i }
 {
-    if i == 0 {
-        return 0;
-    }
-    ends[i - 1] as usize
+    if i == 0 { 0 } else { usize::from(ends[i - 1]) }
 }
 
 // Entry i's text, or no bytes where its ends do not fit.
-pub fn span_at(ends: &[u16], text: &[u8], i: usize) -> Span
+pub fn text_at<'a>(ends: &[u16], text: &'a [u8], i: usize) -> &'a [u8]
     requires { i < length ends.now }
-    ensures { SpanAt ends.now text.now i result.from result.to }
+    ensures { (result.now ≡ text_at_lem ends.now text.now i) × (length result.now ≤ length text.now) }
 {
     let from = start_of(ends, i);
-    let to = ends[i] as usize;
-    if to < from {
-        return Span { from: 0, to: 0 };
+    let to = usize::from(ends[i]);
+    if from <= to && to <= text.len() {
+        &text[from..to]
+    } else {
+        &[]
     }
-    if text.len() < to {
-        return Span { from: 0, to: 0 };
-    }
-    Span { from, to }
 }
 
-// The first entry with a number, which no entry before `from` has; `names` where none has it.
-pub fn entry_of(terms: &[u16], names: usize, from: usize, n: u16) -> usize
+// The first entry with a number, which no entry before `from` has.
+pub fn entry_of(terms: &[u16], names: usize, from: usize, n: u16) -> Option<usize>
     requires { (names ≤ length terms.now) × NotBefore terms.now names from n }
-    ensures { FirstWith terms.now names n result }
+    ensures { FoundWith terms.now names n result }
 {
-    let mut i = from;
-    while i < names {
-        if terms[i] == n {
-            return i;
-        }
-        i += 1;
-    }
-    names
+    (from..names).find(|i| terms[*i] == n)
 }

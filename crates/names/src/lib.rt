@@ -5,7 +5,7 @@
 ghost use Rattle.std.specs.Prelude.{◌≡◌, ◌+◌, ◌≤◌, length};
 ghost use Rattle.names.specs.Names.{lanes_of, start_of, is_unfit_list};
 ghost use Rattle.names.specs.Entering.{Listing, first_of};
-ghost use Rattle.names.specs.Finding.{Lying};
+ghost use Rattle.names.specs.Finding.{Lying, entered_is};
 
 use crate::find::start_of;
 
@@ -13,22 +13,6 @@ pub mod find;
 pub mod five;
 pub mod hash;
 pub mod texts;
-
-#[derive(Drop)]
-pub enum Entered {
-    // It has this number already.
-    Listed(u16),
-    // It is entered with this number, behind the last.
-    New(u16),
-    // It is not listed and does not fit.
-    Full,
-}
-
-#[derive(Drop)]
-pub struct Span {
-    pub from: usize,
-    pub to: usize,
-}
 
 // The most entries and bytes of text that a list may have.
 pub const MOST_NAMES: usize = 512;
@@ -39,29 +23,21 @@ pub const MOST_TEXT: usize = 32768;
 pub fn is_unfit(terms: &[u16], ends: &[u16], text: &[u8]) -> bool
     ensures { result ≡ is_unfit_list (lanes_of terms.now ends.now text.now) }
 {
-    if terms.len() != ends.len() {
-        return true;
-    }
-    if MOST_NAMES < terms.len() {
-        return true;
-    }
-    MOST_TEXT < text.len()
+    terms.len() != ends.len() || MOST_NAMES < terms.len() || MOST_TEXT < text.len()
 }
 
 // The first number that a sort gives out.
 fn first_of(sort: u16) -> u16
     ensures { (result ≡ first_of sort) × (result ≤ 32768) }
 {
-    if sort == term::NAME {
-        return five::NONE;
+    match sort {
+        term::NAME => five::COUNT,
+        term::BLANK => 16384,
+        _ => 32768,
     }
-    if sort == term::BLANK {
-        return 16384;
-    }
-    32768
 }
 
-// An entry put behind the last, where there is room for one; its bytes lie there already.
+// An entry put behind the last, and its number, where there is room for one; its bytes lie there already.
 pub fn add_lying(
     terms: &mut [u16],
     ends: &mut [u16],
@@ -69,15 +45,15 @@ pub fn add_lying(
     names: usize,
     n: u16,
     size: usize,
-) -> Entered
+) -> Option<u16>
     requires { Listing (lanes_of terms.old ends.old text.now) names × (start_of ends.old names + size ≤ length text.now) }
-    ensures { Lying (lanes_of terms.old ends.old text.now) (lanes_of terms.new ends.new text.now) names n size result }
+    ensures { Lying (lanes_of terms.old ends.old text.now) (lanes_of terms.new ends.new text.now) names n size (entered_is result) }
 {
     if terms.len() <= names {
-        return Entered::Full;
+        return None;
     }
     let end = start_of(ends, names) + size;
     ends[names] = end as u16;
     terms[names] = n;
-    Entered::New(n)
+    Some(n)
 }

@@ -14,12 +14,12 @@ use Rattle.names.specs.Names.{NameLanes}
 use Rattle.utf8.specs.Texts.{AllCharacters}
 use Rattle.ntline.specs.declared.lines.Span.{Span}
 use Rattle.ntline.specs.declared.lines.Line.TheVariants.{Bad, Empty, Triple}
+use Rattle.ntline.specs.Kinds.{sort_number}
 use Rattle.ntline.specs.Grammar.{Said, Term}
 use Rattle.ntline.specs.Lines.{Source, Parsed, Heard, is_over, is_dotted, source_of, subject_of, predicate_of, object_of, line_of, meant_by, said_by, SpanOf, LineOf}
 use Rattle.nttext.proofs.Standing.{heard-characters, tail-characters}
 use Rattle.nttext.specs.Standing.{Stands}
-use Rattle.ntenter.specs.declared.LineDone.{LineDone}
-use Rattle.ntenter.specs.Inner.{LineInto, LineRead, TripleInto, TripleRead}
+use Rattle.ntenter.specs.Inner.{LineInto, LineTold, LineRead, TripleInto, TripleRead}
 use Rattle.ntenter.proofs.Threes.{list_long-self}
 
 -- a triple's three terms follow one another
@@ -72,7 +72,7 @@ pub record Three (b : List ℕ) (end : ℕ) (x y z : Span) (heard : Heard) : Typ
   pub subject : Stands b end x s
   pub predicate : Stands b end y p
   pub object : Stands b end z o
-  pub is_name : y.sort ≡ 0
+  pub is_name : sort_number y.sort ≡ 0
 
 module _ (b : List ℕ) (end : ℕ) (cs : List ℕ) where
   pub says-wrong : LineOf b end Bad (line_of cs) → said_by (line_of cs) ≡ Heard.wrong
@@ -163,7 +163,7 @@ module _ (kind a : ℕ) (b : List ℕ) (end : ℕ) (cs : List ℕ) (l : Lanes) (
           is_name = w.is_name;
         }
 
-    pub line-triple : (m : Lanes) (k : NameLanes) (d : LineDone) → TripleRead kind a b end x y z l m count n k names d → LineRead kind a (said_by (line_of cs)) l m count n k names d
+    pub line-triple : (m : Lanes) (k : NameLanes) (d : LineTold) → TripleRead kind a b end x y z l m count n k names d → LineRead kind a (said_by (line_of cs)) l m count n k names d
     line-triple m k d r =
         let w = says_three b end cs x y z h in
         rw w.says (r w.s w.p w.o w.subject w.predicate w.object)

@@ -6,10 +6,8 @@ use Rattle.annotation.specs.Kinds.{algebra}
 use Rattle.table.specs.Rows.{Row, row, Lanes, add_row}
 use Rattle.ntline.specs.Grammar.{Said, Term}
 use Rattle.ntline.specs.Lines.{Heard}
-use Rattle.names.specs.declared.Entered.{Entered}
-use Rattle.names.specs.declared.Entered.TheVariants.{Listed, New, Full}
 use Rattle.names.specs.Names.{Entry, entry, NameLanes}
-use Rattle.names.specs.Entering.{entered_by}
+use Rattle.names.specs.Entering.{Entered, Listed, New, Full, entered_by}
 use Rattle.nttext.specs.Texts.{text_of_term, sort_of_term}
 
 -- what a file reads to

@@ -9,7 +9,7 @@ use lib.ListN.{length, get_or}
 use lib.Seq.{slice, slice-cons}
 use borrow.Author.Tests.{ne_eqb, eqb-true}
 use Rattle.utf8.specs.declared.Character.{Character}
-use Rattle.utf8.specs.declared.Character.TheVariants.{Whole, Bad}
+use Rattle.std.specs.Prelude.{Option, Some, None}
 use Rattle.utf8.specs.Characters.{is_character_lem}
 use Rattle.utf8.specs.Octets.{character_at}
 use Rattle.utf8.specs.Texts.{bad, chars_of, seen, are_characters, is_text_lem, SeenAt}
@@ -49,9 +49,9 @@ first b at end h k = which (character_at b at end) refl
     from : (v n : ℕ) → SeenAt b at end v n → First b at end
     from v n s = record { char = v; left = seen b n end; parts = s.here; byte = one_byte b at end v n k s }
 
-    which : (c : Character) → character_at b at end ≡ c → First b at end
-    which (Whole c n) e = from c (at + n) (seen-whole b at end h k c n e)
-    which Bad e = from bad end (seen-bad b at end h k e)
+    which : (c : Option Character) → character_at b at end ≡ c → First b at end
+    which (Some c) e = from c.number (at + c.size) (seen-whole b at end h k c.number c.size e)
+    which None e = from bad end (seen-bad b at end h k e)
 
 -- ---- white space
 
@@ -124,11 +124,11 @@ module _ (b : List ℕ) (at end : ℕ) where
   pub white_none : at ≤ end → WhiteTo b at end at
   white_none h = record { later = omega arith; within = h; same = refl }
 
-  pub white_over : (i : ℕ) → WhiteTo b at end i → end ≤ i → SpacedAt b at end i
+  pub white_over : (i : ℕ) → WhiteTo b at end i → end ≤ i → SpacedAt b at end end
   white_over i w h =
       let e : i ≡ end = omega (arith, w.within) in
       let none : seen b i end ≡ [] = ap (λ (n : ℕ). chars_of (slice n end b)) e ∙ seen_none b end in
-      record { later = w.later; within = w.within; rest_is = none ∙ sym (w.same ∙ ap spaced none ∙ spaced-nil) }
+      record { later = omega (arith, w.later); within = omega arith; rest_is = seen_none b end ∙ sym (w.same ∙ ap spaced none ∙ spaced-nil) }
 
   module _ (long : end ≤ length b) (i x : ℕ) (w : WhiteTo b at end i) (h : i < end) (is : x ≡ get_or b i 0) (t : Bool) (tested : t ≡ is_white_lem x) where
     pub white_more : t ≡ true → WhiteTo b at end (i + 1)

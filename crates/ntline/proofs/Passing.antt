@@ -12,25 +12,24 @@ use lib.Dec.{eqb, leb, ltb}
 use borrow.Author.Tests.{ne_eqb, le-leb, ltb-true, leb-true, eqb-true, eqb-false, not-true}
 use Rattle.ground.specs.Lists.{all_below}
 use Rattle.ground.proofs.Below.{below_all}
-use Rattle.utf8.specs.declared.Character.TheVariants.{Whole}
 use Rattle.utf8.specs.Characters.{within, is_character_lem}
-use Rattle.utf8.specs.Octets.{character_of, character_in}
+use Rattle.utf8.specs.Octets.{whole, character_of, character_in}
 use Rattle.utf8.specs.Texts.{chars_of, seen}
 use Rattle.utf8.proofs.Judged.{and_left, and_right, is_one, low-character}
 use Rattle.utf8.proofs.Texts.{chars-whole}
 use Rattle.ntline.specs.declared.lexing.State.{State}
 use Rattle.ntline.specs.declared.lexing.State.TheVariants.{Iri, Quoted}
-use Rattle.ntline.specs.Classes.{is_alpha_lem, is_digit_lem, is_alnum_lem, is_barred, is_iri_char_lem, is_base, is_name_start, is_name_char_lem, is_scheme_char_lem}
+use Rattle.ntline.specs.Classes.{is_alpha_lem, is_digit_lem, is_alnum_lem, is_barred, is_iri_char_lem, is_name_char_lem, is_scheme_char_lem}
 use Rattle.ntline.specs.Escapes.{part, fed, fed_by}
 use Rattle.ntline.specs.Lexing.{schemed, iri_goes, in_iri, quoted_goes, in_quoted, step, munched}
-use Rattle.ntline.specs.Runs.{plain_byte, label_byte, Run, Still, RunTo, SchemeTo}
+use Rattle.ntline.specs.Runs.{plain_byte, label_byte, Run, Still, RunTo}
 use Rattle.ntline.proofs.Bools.{second, either}
 use Rattle.ntline.proofs.Munching.{munched-on, iri-none, quoted_none}
 
 -- ---- one byte
 
 -- a byte below 0x80 is a character by itself
-low-whole : (x : ℕ) (xs : List ℕ) → x < 0x80 → character_in (x ∷ xs) ≡ Whole x 1
+low-whole : (x : ℕ) (xs : List ℕ) → x < 0x80 → character_in (x ∷ xs) ≡ whole x 1
 unfolding character_in character_of
 low-whole x xs h = rw (le-leb 1 (suc (length xs)) (omega arith), is_one x (omega arith)) refl
 
@@ -45,24 +44,6 @@ Says P Q = all_below 256 (λ x. not (P x) || Q x)
 
 byte_says : (P Q : ℕ → Bool) → Says P Q ≡ true → (x : ℕ) → x < 256 → P x ≡ true → Q x ≡ true
 byte_says P Q all x h e = second (not (P x)) (Q x) (rw e refl) (below_all 256 (λ y. not (P y) || Q y) all x h)
-
--- a plain byte, and one of a label, as the code tests them
-abbrev pub plain_test : Bool → ℕ → Bool
-plain_test blank x =
-    ((leb 0x23 x && leb x 0x7A) && (((not (eqb x 0x3C) && not (eqb x 0x3E)) && (not (eqb x 0x5C) && not (eqb x 0x5E))) && not (eqb x 0x60))) || (blank && eqb x 0x20)
-
-abbrev pub label_test : ℕ → Bool
-label_test x =
-    (((leb 0x61 x && leb x 0x7A) || (leb 0x41 x && leb x 0x5A)) || (leb 0x30 x && leb x 0x3A)) || (eqb x 0x2D || eqb x 0x5F)
-
-pub plain-tested : (blank : Bool) (x : ℕ) → x < 256 → plain_test blank x ≡ true → plain_byte blank x ≡ true
-unfolding plain_byte is_iri_char_lem is_barred is_character_lem all_below
-plain-tested true x h e = byte_says (plain_test true) (plain_byte true) refl x h e
-plain-tested false x h e = byte_says (plain_test false) (plain_byte false) refl x h e
-
-pub label-tested : (x : ℕ) → x < 256 → label_test x ≡ true → label_byte x ≡ true
-unfolding label_byte is_name_char_lem is_name_start is_base is_alpha_lem is_digit_lem all_below
-label-tested x h e = byte_says label_test label_byte refl x h e
 
 pub label-low : (x : ℕ) → label_byte x ≡ true → x < 0x80
 unfolding label_byte
@@ -98,6 +79,10 @@ walk_to Q at to h q on =
     let e : at + (to - at) ≡ to = omega arith in
     subst Q e (walk Q (to - at) at q (λ k l m. on k l (omega arith)))
 
+-- what holds at so many positions from one on, by their numbers
+pub from_here : (Q : ℕ → Type 0) (at n : ℕ) → ((k : ℕ) → k < n → Q (at + k)) → (k : ℕ) → at ≤ k → k < at + n → Q k
+from_here Q at n h k l m = let is : at + (k - at) ≡ k = omega arith in subst Q is (h (k - at) (omega arith))
+
 module _ (P : ℕ → Bool) (b : List ℕ) (at end : ℕ) where
   pub run_none : at ≤ end → Run P b at end at
   run_none h = record { later = omega arith; within = h; each = λ k l m. absurd (omega arith) }
@@ -114,15 +99,6 @@ module _ (P : ℕ → Bool) (b : List ℕ) (at end : ℕ) where
       which k l m (yes q) = r.each k l q
       which k l m (no q) = s.each k (omega arith) m
 
-  pub run_more : (i : ℕ) → Run P b at end i → i < end → P (get_or b i 0) ≡ true → Run P b at end (i + 1)
-  run_more i r h e =
-      run_on i (i + 1) r
-      (record {
-        later = omega arith;
-        within = omega arith;
-        each = λ k l m. let is : i ≡ k = omega arith in subst (λ (n : ℕ). P (get_or b n 0) ≡ true) is e;
-      })
-
   pub run_block : (i size : ℕ) → Run P b at end i → i + size ≤ end → ((k : ℕ) → k < size → P (get_or b (i + k) 0) ≡ true) → Run P b at end (i + size)
   run_block i size r h e =
       run_on i (i + size) r
@@ -131,15 +107,6 @@ module _ (P : ℕ → Bool) (b : List ℕ) (at end : ℕ) where
         within = h;
         each = λ k l m. let is : i + (k - i) ≡ k = omega arith in subst (λ (n : ℕ). P (get_or b n 0) ≡ true) is (e (k - i) (omega arith));
       })
-
--- one byte more of a block
-pub block_more : (P : ℕ → Bool) (b : List ℕ) (at k : ℕ) (all more : Bool) → (all ≡ true → (j : ℕ) → j < k → P (get_or b (at + j) 0) ≡ true) →
-    (more ≡ true → P (get_or b (at + k) 0) ≡ true) → (all && more) ≡ true → (j : ℕ) → j < k + 1 → P (get_or b (at + j) 0) ≡ true
-block_more P b at k all more before here e j h = which (dec_lt j k)
-  where
-    which : Dec (j < k) → P (get_or b (at + j) 0) ≡ true
-    which (yes q) = before (and_left all more e) j q
-    which (no q) = let is : k ≡ j = omega arith in subst (λ (n : ℕ). P (get_or b (at + n) 0) ≡ true) is (here (and_right all more e))
 
 -- ---- what they do to a state
 
@@ -272,34 +239,3 @@ module _ (b : List ℕ) (at end : ℕ) where
       which k l m (no q) =
           let same : i ≡ k = omega arith in
           subst (λ (n : ℕ). Still (Iri 1 0 0) (get_or b n 0)) same (subst (Still (Iri 1 0 0)) is (scheme_still x (sym e ∙ f)))
-
-  -- the colon behind it
-  pub scheme_told : (i : ℕ) → (x y : ℕ) → x ≡ get_or b at 0 → (t : Bool) → t ≡ is_alpha_lem x → t ≡ true → RunTo (Iri 1 0 0) b (at + 1) end i → i < end →
-      y ≡ get_or b i 0 → y ≡ 0x3A → SchemeTo b at end (i + 1)
-  scheme_told i x y first t e f r h last is =
-      let back : i ≡ i + 1 - 1 = omega arith in
-      record {
-        later = omega (arith, r.later);
-        within = omega arith;
-        letter = ap is_alpha_lem (sym first) ∙ sym e ∙ f;
-        inside = subst (λ (n : ℕ). RunTo (Iri 1 0 0) b (at + 1) end n) back r;
-        colon = subst (λ (n : ℕ). get_or b n 0 ≡ 0x3A) back (sym last ∙ is);
-      }
-
--- ---- a state that a run goes on in, as the code tests it
-
-pub iri-passes : (s : State) (scheme left value : ℕ) (b : List ℕ) (at end to : ℕ) → s ≡ Iri scheme left value →
-    (eqb scheme 2 && (eqb left 0 && eqb value 0)) ≡ true → Run (plain_byte false) b at end to → RunTo s b at end to
-iri-passes s scheme left value b at end to e t r =
-    let x = eqb-true scheme 2 (and_left _ _ t) in
-    let u = and_right (eqb scheme 2) _ t in
-    let y = eqb-true left 0 (and_left _ _ u) in
-    let z = eqb-true value 0 (and_right (eqb left 0) _ u) in
-    rw (e, x, y, z) (iri-run b at end to r)
-
-pub string-passes : (s : State) (left value : ℕ) (b : List ℕ) (at end to : ℕ) → s ≡ Quoted left value →
-    (eqb left 0 && eqb value 0) ≡ true → Run (plain_byte true) b at end to → RunTo s b at end to
-string-passes s left value b at end to e t r =
-    let y = eqb-true left 0 (and_left _ _ t) in
-    let z = eqb-true value 0 (and_right (eqb left 0) _ t) in
-    rw (e, y, z) (string-run b at end to r)

@@ -1,6 +1,6 @@
 -- Terms and lines by their terminals: positions of the bytes for what is left of the line. Assumes nothing.
 use mathlib.Core.Path.{◌≡◌, refl, sym, ap, ◌∙◌}
-use mathlib.Core.Bool.{Bool, true, false}
+use mathlib.Core.Bool.{Bool, true, false, cond}
 use mathlib.Core.List.{List, []}
 use Prim.Native.Nat.{ℕ, ◌≤◌}
 use native.Mathlib.Omega.{arith}
@@ -9,14 +9,42 @@ use lib.Seq.{slice, slice_empty, length-slice}
 use lib.Dec.{eqb}
 use borrow.Author.Tests.{eq-eqb, ne_eqb, eqb-true, eqb-false}
 use Rattle.utf8.specs.declared.Character.{Character}
-use Rattle.utf8.specs.declared.Character.TheVariants.{Whole, Bad}
+use Rattle.std.specs.Prelude.{Option, Some, None}
 use Rattle.utf8.specs.Octets.{character_in}
 use Rattle.utf8.specs.Texts.{chars_of, seen}
 use Rattle.utf8.proofs.Texts.{chars-nil, chars-whole, chars-bad}
 use Rattle.ntline.specs.declared.lines.Span.{Span}
+use Rattle.ntline.specs.declared.lines.Sort.TheVariants.{Name, Blank, Literal}
+use Rattle.ntline.specs.declared.lexing.Kind.{Kind}
+use Rattle.ntline.specs.Kinds.{span, number_of}
 use Rattle.ntline.specs.Lexing.{token_of}
-use Rattle.ntline.specs.Lines.{is_nil, spaced, is_over, Source, source, typed_of, literal_of, source_of, is_dotted, span, SpanOf}
+use Rattle.ntline.specs.Lines.{is_nil, spaced, is_over, Source, source, typed_of, literal_of, source_of, is_dotted, SpanOf, SpanFound}
 use Rattle.ntline.specs.Inner.{TokenAt, SpacedAt}
+
+-- a terminal by its number
+kind_back : ℕ → Kind
+kind_back n =
+    cond (eqb n 1) Kind.Space
+    (cond (eqb n 2) Kind.Dot
+    (cond (eqb n 3) Kind.Hats
+    (cond (eqb n 4) Kind.Remark
+    (cond (eqb n 5) Kind.Label
+    (cond (eqb n 6) Kind.Tag
+    (cond (eqb n 7) Kind.Iri Kind.String))))))
+
+kind-back : (k : Kind) → kind_back (number_of k) ≡ k
+unfolding kind_back
+kind-back Kind.Space = refl
+kind-back Kind.Dot = refl
+kind-back Kind.Hats = refl
+kind-back Kind.Remark = refl
+kind-back Kind.Label = refl
+kind-back Kind.Tag = refl
+kind-back Kind.Iri = refl
+kind-back Kind.String = refl
+
+pub other_kind : (k j : Kind) → (k ≡ j → ⊥) → number_of k ≡ number_of j → ⊥
+other_kind k j h e = h (sym (kind-back k) ∙ ap kind_back e ∙ kind-back j)
 
 pub spaced-space : (cs : List ℕ) → (token_of cs).kind ≡ 1 → spaced cs ≡ (token_of cs).rest
 unfolding spaced
@@ -26,9 +54,9 @@ pub spaced-none : (cs : List ℕ) → ((token_of cs).kind ≡ 1 → ⊥) → spa
 unfolding spaced
 spaced-none cs e = rw (ne_eqb (token_of cs).kind 1 e) refl
 
-some-chars : (s : List ℕ) → 1 ≤ length s → (k : Character) → character_in s ≡ k → is_nil (chars_of s) ≡ false
-some-chars s some (Whole c n) e = rw (chars-whole s c n e) refl
-some-chars s some Bad e = rw (chars-bad s some e) refl
+some-chars : (s : List ℕ) → 1 ≤ length s → (k : Option Character) → character_in s ≡ k → is_nil (chars_of s) ≡ false
+some-chars s some (Some c) e = rw (chars-whole s c.number c.size e) refl
+some-chars s some None e = rw (chars-bad s some e) refl
 
 -- what stands at the front, by its first terminal
 pub source-iri : (cs : List ℕ) → (token_of (spaced cs)).kind ≡ 7 → source_of cs ≡ source 0 (spaced cs) (token_of (spaced cs)).rest (token_of (spaced cs)).rest
@@ -111,7 +139,7 @@ module _ (b : List ℕ) where
     not_there : (n : ℕ) → (kind ≡ n → ⊥) → (token_of (spaced (seen b at end))).kind ≡ n → ⊥
     not_there n e x = e (kind-there ∙ x)
 
-    pub term-iri : kind ≡ 7 → SpanOf b end (span 0 from to to) (source_of (seen b at end))
+    pub term-iri : kind ≡ 7 → SpanOf b end (span Name from to to) (source_of (seen b at end))
     term-iri e =
         let is = source-iri (seen b at end) (there 7 e) in
         record {
@@ -124,7 +152,7 @@ module _ (b : List ℕ) where
           tail_is = rest-there ∙ ap (λ (x : Source). x.tail) (sym is);
         }
 
-    pub term-label : kind ≡ 5 → SpanOf b end (span 1 from to to) (source_of (seen b at end))
+    pub term-label : kind ≡ 5 → SpanOf b end (span Blank from to to) (source_of (seen b at end))
     term-label e =
         let is = source-label (seen b at end) (there 5 e) in
         record {
@@ -137,27 +165,17 @@ module _ (b : List ℕ) where
           tail_is = rest-there ∙ ap (λ (x : Source). x.tail) (sym is);
         }
 
-    pub term-none : (kind ≡ 7 → ⊥) → (kind ≡ 5 → ⊥) → (kind ≡ 8 → ⊥) → SpanOf b end (span 3 from from from) (source_of (seen b at end))
-    term-none x y z =
-        let is = source-none (seen b at end) (not_there 7 x) (not_there 5 y) (not_there 8 z) in
-        record {
-          sort_is = ap (λ (q : Source). q.sort) (sym is);
-          rising = omega arith;
-          rising_tail = omega arith;
-          within = s.within;
-          from_is = s.rest_is ∙ ap (λ (q : Source). q.from) (sym is);
-          to_is = s.rest_is ∙ ap (λ (q : Source). q.to) (sym is);
-          tail_is = s.rest_is ∙ ap (λ (q : Source). q.tail) (sym is);
-        }
+    pub term-none : (kind ≡ 7 → ⊥) → (kind ≡ 5 → ⊥) → (kind ≡ 8 → ⊥) → (source_of (seen b at end)).sort ≡ 3
+    term-none x y z = ap (λ (q : Source). q.sort) (source-none (seen b at end) (not_there 7 x) (not_there 5 y) (not_there 8 z))
 
     -- a string, and what its literal is
-    pub term-string : (r : Span) → kind ≡ 8 → SpanOf b end r (literal_of (seen b from end) (seen b to end)) → SpanOf b end r (source_of (seen b at end))
+    pub term-string : (r : Option Span) → kind ≡ 8 → SpanFound b end r (literal_of (seen b from end) (seen b to end)) → SpanFound b end r (source_of (seen b at end))
     term-string r e x =
         rw (source-string (seen b at end) (there 8 e), ← s.rest_is, ← t.rest_is) x
 
   -- behind a string that lies from one position to another: white space, and a terminal
   module _ (first to end from kind behind : ℕ) (low : first ≤ to) (s : SpacedAt b to end from) (t : TokenAt b from end kind behind) where
-    pub literal-tagged : kind ≡ 6 → SpanOf b end (span 2 first to behind) (literal_of (seen b first end) (seen b to end))
+    pub literal-tagged : kind ≡ 6 → SpanOf b end (span Literal first to behind) (literal_of (seen b first end) (seen b to end))
     literal-tagged e =
         let is = literal-tag (seen b first end) (seen b to end) (there to end from kind behind s t 6 e) in
         record {
@@ -170,12 +188,12 @@ module _ (b : List ℕ) where
           tail_is = rest-there to end from kind behind s t ∙ ap (λ (x : Source). x.tail) (sym is);
         }
 
-    pub literal-typed : (r : Span) → kind ≡ 3 → SpanOf b end r (typed_of (seen b first end) (seen b to end) (seen b behind end)) →
-        SpanOf b end r (literal_of (seen b first end) (seen b to end))
+    pub literal-typed : (r : Option Span) → kind ≡ 3 → SpanFound b end r (typed_of (seen b first end) (seen b to end) (seen b behind end)) →
+        SpanFound b end r (literal_of (seen b first end) (seen b to end))
     literal-typed r e x =
         rw (literal-hats (seen b first end) (seen b to end) (there to end from kind behind s t 3 e), ← rest-there to end from kind behind s t) x
 
-    pub literal-plain : to ≤ end → (kind ≡ 6 → ⊥) → (kind ≡ 3 → ⊥) → SpanOf b end (span 2 first to to) (literal_of (seen b first end) (seen b to end))
+    pub literal-plain : to ≤ end → (kind ≡ 6 → ⊥) → (kind ≡ 3 → ⊥) → SpanOf b end (span Literal first to to) (literal_of (seen b first end) (seen b to end))
     literal-plain high x y =
         let is = literal-bare (seen b first end) (seen b to end) (not_there to end from kind behind s t 6 x) (not_there to end from kind behind s t 3 y) in
         record {
@@ -190,7 +208,7 @@ module _ (b : List ℕ) where
 
   -- behind '^^'
   module _ (first to at end from kind behind : ℕ) (low : first ≤ to) (mid : to ≤ at) (s : SpacedAt b at end from) (t : TokenAt b from end kind behind) where
-    pub typed_found : kind ≡ 7 → SpanOf b end (span 2 first to behind) (typed_of (seen b first end) (seen b to end) (seen b at end))
+    pub typed_found : kind ≡ 7 → SpanOf b end (span Literal first to behind) (typed_of (seen b first end) (seen b to end) (seen b at end))
     typed_found e =
         let is = typed_iri (seen b first end) (seen b to end) (seen b at end) (there at end from kind behind s t 7 e) in
         record {
@@ -203,18 +221,9 @@ module _ (b : List ℕ) where
           tail_is = rest-there at end from kind behind s t ∙ ap (λ (x : Source). x.tail) (sym is);
         }
 
-    pub typed_missing : (kind ≡ 7 → ⊥) → SpanOf b end (span 3 first to behind) (typed_of (seen b first end) (seen b to end) (seen b at end))
+    pub typed_missing : (kind ≡ 7 → ⊥) → (typed_of (seen b first end) (seen b to end) (seen b at end)).sort ≡ 3
     typed_missing e =
-        let is = typed_none (seen b first end) (seen b to end) (seen b at end) (not_there at end from kind behind s t 7 e) in
-        record {
-          sort_is = ap (λ (x : Source). x.sort) (sym is);
-          rising = low;
-          rising_tail = omega (arith, s.later, t.later);
-          within = t.within;
-          from_is = ap (λ (x : Source). x.from) (sym is);
-          to_is = ap (λ (x : Source). x.to) (sym is);
-          tail_is = rest-there at end from kind behind s t ∙ ap (λ (x : Source). x.tail) (sym is);
-        }
+        ap (λ (x : Source). x.sort) (typed_none (seen b first end) (seen b to end) (seen b at end) (not_there at end from kind behind s t 7 e))
 
   pub dotted_over : (at end from kind to : ℕ) → SpacedAt b at end from → TokenAt b from end kind to → kind ≡ 2 → (r : Bool) → r ≡ is_over (seen b to end) →
       r ≡ is_dotted (seen b at end)

@@ -7,15 +7,16 @@ use native.Mathlib.Omega.{arith}
 use lib.ListN.{length, get_or}
 use lib.Seq.{slice, slice_empty}
 use lib.Dec.{eqb}
-use borrow.Author.Tests.{ne_eqb}
 use Rattle.utf8.specs.Characters.{is_character_lem}
 use Rattle.utf8.specs.Texts.{chars_of, seen, SeenAt}
 use Rattle.utf8.proofs.Texts.{chars-nil}
 use Rattle.ntline.specs.declared.lexing.State.{State}
 use Rattle.ntline.specs.declared.lexing.State.TheVariants.{Start, Dead, White, Dot, Hat, Hats, Remark, Under, Colon, Label, Dots, At, Letters, Minus, Alnums, Iri, IriEnd, Quoted, QuotedEnd}
-use Rattle.ntline.specs.Classes.{is_alpha_lem, is_iri_char_lem, is_barred, is_name_char_lem, is_label_start_lem}
+use Rattle.ntline.specs.Classes.{is_alpha_lem, is_iri_char_lem, is_barred, is_label_start_lem}
 use Rattle.ntline.specs.Escapes.{fed_by}
-use Rattle.ntline.specs.Lexing.{schemed, iri_goes, in_iri, in_quoted, in_label, step, kind_of, is_dead_lem, Token, token_is, later_kind, later_rest, munched, token_of}
+use Rattle.ntline.specs.declared.lexing.Kind.{Kind}
+use Rattle.ntline.specs.Kinds.{number_of}
+use Rattle.ntline.specs.Lexing.{schemed, iri_goes, in_iri, in_quoted, step, kind_of, is_dead_lem, Token, token_is, later_kind, later_rest, munched, token_of}
 use Rattle.ntline.specs.Runs.{plain_byte, label_byte, Run, RunTo, SchemeTo}
 use Rattle.ntline.specs.Inner.{Reached, StopsAt, TokenAt}
 use Rattle.ntline.proofs.Munching.{munched-dead, munched-on, munched-end, over-iri, over-quoted, over-dot, over-hats, iri-raw, iri-none, quoted_none}
@@ -117,6 +118,16 @@ hat_goes : step Hat 0x5E ≡ Hats
 unfolding step
 hat_goes = refl
 
+some_number : (k : Kind) → eqb (number_of k) 0 ≡ false
+some_number Kind.Space = refl
+some_number Kind.Dot = refl
+some_number Kind.Hats = refl
+some_number Kind.Remark = refl
+some_number Kind.Label = refl
+some_number Kind.Tag = refl
+some_number Kind.Iri = refl
+some_number Kind.String = refl
+
 module _ (b : List ℕ) (at end : ℕ) where
   pub loop_start : at ≤ end → Reached b at end Start 0 at at
   unfolding token_of
@@ -150,7 +161,7 @@ module _ (b : List ℕ) (at end : ℕ) where
   kept_high true to next h k = h
   kept_high false to next h k = k
 
-  pub loop_goes : (state new : State) (kind to i value next here kind' to' : ℕ) → Reached b at end state kind to i → SeenAt b i end value next →
+  loop_goes : (state new : State) (kind to i value next here kind' to' : ℕ) → Reached b at end state kind to i → SeenAt b i end value next →
       new ≡ step state value → here ≡ kind_of new → kind' ≡ later_kind here kind → to' ≡ cond (eqb here 0) to next → Reached b at end new kind' to' next
   loop_goes state new kind to i value next here kind' to' l s is h k t =
       let low : at ≤ cond (eqb here 0) to next = kept_low (eqb here 0) to next l.later (omega (arith, l.gone, s.later)) in
@@ -166,6 +177,16 @@ module _ (b : List ℕ) (at end : ℕ) where
             ∙ munched-goes state kind (seen b to end) value (seen b next end)
             ∙ rw (e, ← is, k, t, ← kept-rest (eqb here 0) to next) refl;
       }
+
+  -- a terminal may end behind a character more, or none
+  pub loop_some : (state new : State) (kind to i value next : ℕ) (k : Kind) → Reached b at end state kind to i → SeenAt b i end value next →
+      new ≡ step state value → number_of k ≡ kind_of new → Reached b at end new (number_of k) next next
+  loop_some state new kind to i value next k l s is h =
+      loop_goes state new kind to i value next (number_of k) (number_of k) next l s is h (sym (rw (some_number k) refl)) (sym (rw (some_number k) refl))
+
+  pub loop_none : (state new : State) (kind to i value next : ℕ) → Reached b at end state kind to i → SeenAt b i end value next →
+      new ≡ step state value → 0 ≡ kind_of new → Reached b at end new kind to next
+  loop_none state new kind to i value next l s is h = loop_goes state new kind to i value next 0 kind to l s is h refl refl
 
   pub loop_ends : (state : State) (kind to i : ℕ) → Reached b at end state kind to i → end ≤ i → TokenAt b at end kind to
   loop_ends state kind to i l h =
@@ -292,15 +313,7 @@ module _ (b : List ℕ) (at end : ℕ) where
         (label-from (get_or b k 0) (label-name (get_or b k 0) byte)) 5 kind-label refl) in
         loop_over Label 5 to to all stop.stops
 
--- ---- where a label or a tag does not go on
-
-label-dead : (x : ℕ) → is_name_char_lem x ≡ false → (x ≡ 0x2E → ⊥) → step Label x ≡ Dead
-unfolding step in_label
-label-dead x e other = rw (e, ne_eqb x 0x2E other) refl
-
-letters_dead : (x : ℕ) → is_alpha_lem x ≡ false → (x ≡ 0x2D → ⊥) → step Letters x ≡ Dead
-unfolding step
-letters_dead x e other = rw (e, ne_eqb x 0x2D other) refl
+-- ---- where no terminal goes on
 
 module _ (b : List ℕ) (at end : ℕ) where
   pub stops-end_at : (s : State) → at ≡ end → StopsAt s b at end
@@ -309,14 +322,8 @@ module _ (b : List ℕ) (at end : ℕ) where
       record { stops = λ kind rest. ap (munched s kind rest) none ∙ munched-over s kind rest }
 
   module _ (long : end ≤ length b) (h : at < end) (x : ℕ) (is : x ≡ get_or b at 0) (low : x ≤ 0x7F) where
-    stops-byte : (s : State) → step s x ≡ Dead → StopsAt s b at end
-    stops-byte s dead =
+    pub stops-byte : (s new : State) → new ≡ step s x → is_dead_lem new ≡ true → StopsAt s b at end
+    stops-byte s new goes dead =
         let here : seen b at end ≡ x ∷ seen b (at + 1) end
         = low-seen b at end h long (omega arith) ∙ ap (λ (n : ℕ). n ∷ seen b (at + 1) end) (sym is) in
-        record { stops = λ kind rest. ap (munched s kind rest) here ∙ munched-stops s kind rest x (seen b (at + 1) end) dead }
-
-    pub label-stops_byte : (x ≡ 0x2E → ⊥) → is_name_char_lem x ≡ false → StopsAt Label b at end
-    label-stops_byte other e = stops-byte Label (label-dead x e other)
-
-    pub letters_stop_byte : (x ≡ 0x2D → ⊥) → is_alpha_lem x ≡ false → StopsAt Letters b at end
-    letters_stop_byte other e = stops-byte Letters (letters_dead x e other)
+        record { stops = λ kind rest. ap (munched s kind rest) here ∙ munched-stops s kind rest x (seen b (at + 1) end) (sym goes ∙ is-dead new dead) }

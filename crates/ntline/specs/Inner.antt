@@ -1,11 +1,13 @@
 -- What the parts of reading a line promise each other: positions of the bytes for what is left of the line.
-use Rattle.std.specs.Prelude.{◌≡◌, List, ℕ, ◌≤◌}
+use Rattle.std.specs.Prelude.{◌≡◌, Option, List, ℕ, ◌≤◌}
 use Rattle.utf8.specs.Texts.{seen}
 use Rattle.ntline.specs.declared.lexing.State.{State}
+use Rattle.ntline.specs.declared.lexing.Terminal.{Terminal}
 use Rattle.ntline.specs.declared.lines.Span.{Span}
 use Rattle.ntline.specs.declared.lines.Line.{Line}
 use Rattle.ntline.specs.Lexing.{token_is, munched, token_of}
-use Rattle.ntline.specs.Lines.{Source, spaced, typed_of, literal_of, source_of, object_of, predicate_of, subject_of, SpanOf, LineOf}
+use Rattle.ntline.specs.Kinds.{found_kind, found_to}
+use Rattle.ntline.specs.Lines.{Source, spaced, typed_of, literal_of, source_of, object_of, predicate_of, subject_of, SpanOf, SpanFound, LineOf}
 
 -- the terminal at a position
 pub record TokenAt (b : List ℕ) (at end kind to : ℕ) : Type 0 where
@@ -13,6 +15,10 @@ pub record TokenAt (b : List ℕ) (at end kind to : ℕ) : Type 0 where
   pub within : to ≤ end
   pub kind_is : kind ≡ (token_of (seen b at end)).kind
   pub rest_is : seen b to end ≡ (token_of (seen b at end)).rest
+
+-- what is found at a position is the terminal there
+abbrev pub FoundAt : List ℕ → ℕ → ℕ → Option Terminal → Type 0
+FoundAt b at end r = TokenAt b at end (found_kind r) (found_to at r)
 
 -- behind some characters of the terminal at a position: the state there, the terminal that ended last, and where
 pub record Reached (b : List ℕ) (at end : ℕ) (state : State) (kind to i : ℕ) : Type 0 where
@@ -32,14 +38,14 @@ pub record SpacedAt (b : List ℕ) (at end to : ℕ) : Type 0 where
   pub rest_is : seen b to end ≡ spaced (seen b at end)
 
 -- a term whose first terminal lies from one position to another
-abbrev pub TypedAt : List ℕ → ℕ → ℕ → ℕ → ℕ → Span → Type 0
-TypedAt b from to at end r = SpanOf b end r (typed_of (seen b from end) (seen b to end) (seen b at end))
+abbrev pub TypedAt : List ℕ → ℕ → ℕ → ℕ → ℕ → Option Span → Type 0
+TypedAt b from to at end r = SpanFound b end r (typed_of (seen b from end) (seen b to end) (seen b at end))
 
-abbrev pub LiteralAt : List ℕ → ℕ → ℕ → ℕ → Span → Type 0
-LiteralAt b from to end r = SpanOf b end r (literal_of (seen b from end) (seen b to end))
+abbrev pub LiteralAt : List ℕ → ℕ → ℕ → ℕ → Option Span → Type 0
+LiteralAt b from to end r = SpanFound b end r (literal_of (seen b from end) (seen b to end))
 
-abbrev pub TermAt : List ℕ → ℕ → ℕ → Span → Type 0
-TermAt b at end r = SpanOf b end r (source_of (seen b at end))
+abbrev pub TermAt : List ℕ → ℕ → ℕ → Option Span → Type 0
+TermAt b at end r = SpanFound b end r (source_of (seen b at end))
 
 -- for whatever sources the spans before stand
 abbrev pub ObjectAt : List ℕ → Span → Span → ℕ → Line → Type 0

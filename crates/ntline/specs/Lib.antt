@@ -3,6 +3,7 @@ pub mod Classes
 pub mod Grammar
 pub mod Escapes
 pub mod Lexing
+pub mod Kinds
 pub mod Lines
 pub mod Runs
 pub mod Inner

@@ -1,11 +1,12 @@
 -- A line taken apart by its terminals, and what it says.
-use Rattle.std.specs.Prelude.{◌≡◌, Bool, true, false, cond, ◌&&◌, ◌||◌, List, [], ◌∷◌, ℕ, ◌-◌, ◌≤◌, length, take, drop, eqb, leb}
+use Rattle.std.specs.Prelude.{◌≡◌, Option, Some, None, Bool, true, false, cond, ◌&&◌, ◌||◌, List, [], ◌∷◌, ℕ, ◌-◌, ◌≤◌, length, take, drop, eqb, leb}
 use Rattle.utf8.specs.Texts.{seen}
 use Rattle.ntline.specs.declared.lines.Span.{Span}
 use Rattle.ntline.specs.declared.lines.Line.{Line}
 use Rattle.ntline.specs.declared.lines.Line.TheVariants.{Bad, Empty, Triple}
 use Rattle.ntline.specs.Grammar.{Said, Sort, Term}
 use Rattle.ntline.specs.Escapes.{resolved}
+use Rattle.ntline.specs.Kinds.{sort_number}
 use Rattle.ntline.specs.Lexing.{token_of, a_space, a_dot, a_hats, a_remark, a_label, a_tag, an_iri, a_string}
 
 abbrev pub is_nil : List ℕ → Bool
@@ -103,18 +104,20 @@ said_by bad = wrong
 said_by empty = heard Said.nothing
 said_by (parsed s p o) = heard (Said.says (meant_by s) (meant_by p) (meant_by o))
 
-abbrev pub span : ℕ → ℕ → ℕ → ℕ → Span
-span sort from to tail = record { sort = sort; from = from; to = to; tail = tail }
-
 -- a span of bytes and the source that it stands for
 pub record SpanOf (b : List ℕ) (end : ℕ) (span : Span) (s : Source) : Type 0 where
-  pub sort_is : span.sort ≡ s.sort
+  pub sort_is : sort_number span.sort ≡ s.sort
   pub rising : span.from ≤ span.to
   pub rising_tail : span.to ≤ span.tail
   pub within : span.tail ≤ end
   pub from_is : seen b span.from end ≡ s.from
   pub to_is : seen b span.to end ≡ s.to
   pub tail_is : seen b span.tail end ≡ s.tail
+
+-- a term's span, or none where a source is of no sort
+abbrev pub SpanFound : List ℕ → ℕ → Option Span → Source → Type 0
+SpanFound b end (Some r) s = SpanOf b end r s
+SpanFound b end None s = s.sort ≡ 3
 
 -- a line as the code gives it, and as it is
 abbrev pub LineOf : List ℕ → ℕ → Line → Parsed → Type 0

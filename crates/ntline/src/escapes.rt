@@ -1,12 +1,14 @@
 // Escapes, a character at a time.
-ghost use Rattle.std.specs.Prelude.{◌≡◌, ◌-◌, cond};
+#![tactic(auto, unfolding(crate::specs::Classes::hex_value, crate::specs::Classes::is_digit_lem, crate::specs::Escapes::echar_of, crate::specs::Escapes::opened_by, crate::specs::Escapes::reckoned, crate::specs::Escapes::shifted, crate::specs::Escapes::hexed_by, crate::specs::Escapes::fed_by))]
+
+ghost use Rattle.std.specs.Prelude.{◌≡◌};
 ghost use Rattle.ntline.specs.Classes.{hex_value};
 ghost use Rattle.ntline.specs.Escapes.{part, fed, echar_of, opened_by, reckoned, shifted, hexed_by, outside_by, fed_by};
 
-use crate::classes::{between, is_character, is_digit, is_hex};
+use crate::classes::{is_character, is_hex};
 use utf8::BAD;
 
-// Nothing is given yet: the escape goes on.
+// Nothing is given yet: the escape goes on. A number beside the characters, as `fed_by` and `resolved` in specs/ have it.
 pub const PART: u32 = 0x110001;
 
 pub const LAST: u32 = 0x10FFFF;
@@ -20,18 +22,6 @@ pub struct Fed {
     pub left: u32,
     pub value: u32,
     pub out: u32,
-}
-
-pub fn choose(test: bool, yes: u32, no: u32) -> u32
-    ensures { result ≡ cond test yes no }
-{
-    if test { yes } else { no }
-}
-
-fn pick_fed(test: bool, yes: Fed, no: Fed) -> Fed
-    ensures { result ≡ cond test yes no }
-{
-    if test { yes } else { no }
 }
 
 fn gives(out: u32) -> Fed
@@ -54,28 +44,22 @@ fn goes_on(left: u32, value: u32) -> Fed
     }
 }
 
-fn minus(a: u32, b: u32) -> u32
-    ensures { result ≡ a - b }
-{
-    if a < b { 0 } else { a - b }
-}
-
 // The number of a hex digit.
 fn hex_value(c: u32) -> u32
     ensures { result ≡ hex_value c }
 {
-    let letter = choose(between(0x41, 0x46, c), minus(c, 0x37), minus(c, 0x57));
-    choose(is_digit(c), minus(c, 0x30), letter)
+    match c {
+        0x30..=0x39 => c - 0x30,
+        0x41..=0x46 => c - 0x37,
+        _ => c.saturating_sub(0x57),
+    }
 }
 
 // One hex digit more; a number past the last character only grows.
 fn shift(value: u32, digit: u32) -> u32
     ensures { result ≡ shifted value digit }
 {
-    if LAST < value {
-        return BAD;
-    }
-    if 15 < digit {
+    if value > LAST || digit > 15 {
         return BAD;
     }
     value * 16 + digit
@@ -85,59 +69,64 @@ fn shift(value: u32, digit: u32) -> u32
 fn echar(c: u32) -> u32
     ensures { result ≡ echar_of c }
 {
-    let backslash = choose(c == 0x5C, 0x5C, BAD);
-    let apostrophe = choose(c == 0x27, 0x27, backslash);
-    let quote = choose(c == 0x22, 0x22, apostrophe);
-    let formfeed = choose(c == 0x66, 0xC, quote);
-    let back = choose(c == 0x72, 0xD, formfeed);
-    let newline = choose(c == 0x6E, 0xA, back);
-    let backspace = choose(c == 0x62, 0x8, newline);
-    choose(c == 0x74, 0x9, backspace)
+    match c {
+        0x74 => 0x9,
+        0x62 => 0x8,
+        0x6E => 0xA,
+        0x72 => 0xD,
+        0x66 => 0xC,
+        0x22 | 0x27 | 0x5C => c,
+        _ => BAD,
+    }
 }
 
 fn opened(c: u32) -> Fed
     ensures { result ≡ opened_by c }
 {
-    let long = pick_fed(c == 0x55, goes_on(8, 0), gives(echar(c)));
-    pick_fed(c == 0x75, goes_on(4, 0), long)
+    match c {
+        0x75 => goes_on(4, 0),
+        0x55 => goes_on(8, 0),
+        _ => gives(echar(c)),
+    }
 }
 
 fn reckon(left: u32, number: u32) -> Fed
     ensures { result ≡ reckoned left number }
 {
-    let last = choose(is_character(number), number, BAD);
-    pick_fed(left == 1, gives(last), goes_on(minus(left, 1), number))
+    if left != 1 {
+        return goes_on(left.saturating_sub(1), number);
+    }
+    let last = if is_character(number) { number } else { BAD };
+    gives(last)
 }
 
 fn hexed(left: u32, value: u32, c: u32) -> Fed
     ensures { result ≡ hexed_by left value c }
 {
-    let whole = reckon(left, shift(value, hex_value(c)));
-    pick_fed(is_hex(c), whole, gives(BAD))
+    if !is_hex(c) {
+        return gives(BAD);
+    }
+    reckon(left, shift(value, hex_value(c)))
 }
 
 // A character outside an escape: it stands for itself, or a backslash begins one.
 fn outside(c: u32) -> Fed
     ensures { result ≡ outside_by c }
 {
-    if c == 0x5C {
-        return goes_on(BACKSLASH, 0);
+    match c {
+        0x5C => goes_on(BACKSLASH, 0),
+        PART => gives(BAD),
+        _ => gives(c),
     }
-    if c == PART {
-        return gives(BAD);
-    }
-    gives(c)
 }
 
 // One character more.
 pub fn feed(left: u32, value: u32, c: u32) -> Fed
     ensures { result ≡ fed_by left value c }
 {
-    if left == 0 {
-        return outside(c);
+    match left {
+        0 => outside(c),
+        BACKSLASH => opened(c),
+        _ => hexed(left, value, c),
     }
-    if left == BACKSLASH {
-        return opened(c);
-    }
-    hexed(left, value, c)
 }

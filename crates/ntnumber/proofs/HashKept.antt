@@ -3,20 +3,18 @@ use mathlib.Core.Path.{◌≡◌, refl, sym, ap, ◌∙◌}
 use mathlib.Core.List.{List, [], ◌∷◌, ◌++◌}
 use Prim.Native.Nat.{ℕ, ◌+◌, ◌<◌}
 use native.Mathlib.Omega.{arith}
+use Rattle.std.specs.Prelude.{Option, Some, None}
 use lib.ListN.{length, get_or, set, take, drop}
 use lib.Seq.{slice}
 use Rattle.utf8.proofs.Seeing.{drop-take}
 use Rattle.ground.specs.Lists.{tab}
 use Rattle.ground.proofs.Tab.{tab-length}
-use Rattle.names.specs.declared.Entered.{Entered}
-use Rattle.names.specs.declared.Entered.TheVariants.{Listed, New, Full}
 use Rattle.names.specs.Names.{Entry, entry, NameLanes, start_of, entry_at, entries_of}
-use Rattle.names.specs.Entering.{Lookup}
+use Rattle.names.specs.Entering.{Entered, Listed, New, Full, Lookup}
 use Rattle.names.specs.Finding.{Lying}
-use Rattle.names.specs.Hashed.{buckets, hash_of, Hashed}
+use Rattle.names.specs.Hashed.{buckets, hash_of, Hashed, lookup_is}
 use Rattle.names.proofs.Hashing.{hashed_more}
-use Rattle.ntnumber.specs.declared.Numbered.{Numbered}
-use Rattle.ntnumber.specs.Numbering.{found_number, numbered_of, LyingAs, HashEntered}
+use Rattle.ntnumber.specs.Numbering.{Told, told, found_number, numbered_of, LyingAs, HashEntered}
 
 pub hashed_as : (es fs : List Entry) (heads next heads' next' : List ℕ) → fs ≡ es → heads' ≡ heads → next' ≡ next → Hashed es heads next → Hashed fs heads' next'
 hashed_as es fs heads next heads' next' e f g h = rw (e, f, g) h
@@ -26,26 +24,34 @@ unfolding tab
 hashed_none k heads next h = h
 
 -- nothing entered, or one entry and its hash
-pub hash_left : (heads next : List ℕ) (names h : ℕ) (r : Numbered) → r.names ≡ names → HashEntered heads next heads next names h r
+pub hash_left : (heads next : List ℕ) (names h : ℕ) (r : Told) → r.names ≡ names → HashEntered heads next heads next names h r
 hash_left heads next names h r e = record { entered = λ f. absurd (omega arith); left = λ f. (refl, refl) }
 
-pub hash_entered : (heads next heads' next' : List ℕ) (names h : ℕ) (r : Numbered) → r.names ≡ names + 1 → heads' ≡ set heads h (names + 1) → next' ≡ set next names (get_or heads h 0)
+pub hash_entered : (heads next heads' next' : List ℕ) (names h : ℕ) (r : Told) → r.names ≡ names + 1 → heads' ≡ set heads h (names + 1) → next' ≡ set next names (get_or heads h 0)
     → HashEntered heads next heads' next' names h r
 hash_entered heads next heads' next' names h r e f g = record { entered = λ x. (f, g); left = λ x. absurd (omega arith) }
 
 -- a term that is only looked for leaves the list as it was
-pub hashed_found : (k : NameLanes) (names : ℕ) (x : Lookup) (r : Numbered) (heads next : List ℕ) → r ≡ found_number x names → Hashed (entries_of k names) heads next → Hashed (entries_of k r.names) heads next
-hashed_found k names (Lookup.number n) r heads next e h = rw e h
-hashed_found k names Lookup.none r heads next e h = rw e h
+pub hashed_found : (k : NameLanes) (names : ℕ) (x : Lookup) (heads next : List ℕ) → Hashed (entries_of k names) heads next → Hashed (entries_of k (found_number x names).names) heads next
+hashed_found k names (Lookup.number n) heads next h = h
+hashed_found k names Lookup.none heads next h = h
 
-pub new_low : (k m : NameLanes) (names n size : ℕ) (x : Entered) (v : ℕ) → Lying k m names n size x → x ≡ New v → names < 512
-new_low k m names n size x v y e =
-    let z : Lying k m names n size (New v) = rw e at y in
+-- what a text that was only looked for answers
+pub found_told : (names : ℕ) (o : Option ℕ) → found_number (lookup_is o) names ≡ told names o
+found_told names (Some n) = refl
+found_told names None = refl
+
+pub told-names : (names : ℕ) (o : Option ℕ) → (told names o).names ≡ names
+told-names names (Some n) = refl
+told-names names None = refl
+
+pub new_low : (k m : NameLanes) (names n size v : ℕ) → Lying k m names n size (New v) → names < 512
+new_low k m names n size v z =
     let g = z.listing.room in
     let w = z.listing.few in
     omega arith
 
-module _ (k m : NameLanes) (names n size : ℕ) (r : Numbered) (heads next heads' next' : List ℕ) (h : ℕ) (a : LyingAs k m names n size r) (u : HashEntered heads next heads' next' names h r)
+module _ (k m : NameLanes) (names n size : ℕ) (r : Told) (heads next heads' next' : List ℕ) (h : ℕ) (a : LyingAs k m names n size r) (u : HashEntered heads next heads' next' names h r)
     (s : Hashed (entries_of k names) heads next) (from : ℕ) (start : from ≡ start_of k.ends names)
     (is : h ≡ hash_of (take size (drop from k.text))) (low : h < buckets) where
   abbrev word : List ℕ
@@ -64,10 +70,10 @@ module _ (k m : NameLanes) (names n size : ℕ) (r : Numbered) (heads next heads
       stays e f = rw e (hashed_as (entries_of k names) (entries_of m names) heads next heads' next' f (u.left e).0 (u.left e).1 s)
 
       go : (x : Entered) → Lying k m names n size x → r ≡ numbered_of x names → Hashed (entries_of m r.names) heads' next'
-      go (Listed v) y e = stays (ap (λ (q : Numbered). q.names) e) y.entries
-      go Full y e = stays (ap (λ (q : Numbered). q.names) e) y.entries
+      go (Listed v) y e = stays (ap (λ (q : Told). q.names) e) y.entries
+      go Full y e = stays (ap (λ (q : Told). q.names) e) y.entries
       go (New v) y e =
-          let f : r.names ≡ names + 1 = ap (λ (q : Numbered). q.names) e in
+          let f : r.names ≡ names + 1 = ap (λ (q : Told). q.names) e in
           let g = y.listing.room in
           let w = y.listing.few in
           let c = count in

@@ -12,22 +12,21 @@ use Rattle.utf8.proofs.Seeing.{drop-take}
 use Rattle.ground.proofs.Tab.{tab-length, tab-ext}
 use Rattle.term.specs.Term.{sort_of}
 use Rattle.field.specs.Numbers.{written}
-use Rattle.names.specs.declared.Entered.{Entered}
-use Rattle.names.specs.declared.Entered.TheVariants.{Listed, New, Full}
-use Rattle.names.specs.declared.find.Found.TheVariants.{Number, Missing}
+use Rattle.std.specs.Prelude.{Option, Ok, Err}
 use Rattle.names.specs.Names.{Entry, entry, NameLanes, lanes_of, start_of, text_at_lem, entry_at, entries_of}
-use Rattle.names.specs.Entering.{Listing, Lookup, same_text_lem, is_of, lookup, lookup_five, five_number, known, or_else, next_of, bytes_of, has_room_lem, answer_of, entered_by, entries_after, count_after}
+use Rattle.names.specs.Entering.{Entered, Listed, New, Full, Listing, Lookup, same_text_lem, is_of, lookup, lookup_five, five_number, known, or_else, next_of, bytes_of, has_room_lem, answer_of, entered_by, entries_after, count_after}
 use Rattle.names.specs.Finding.{found_of, number_for}
+use Rattle.names.specs.Hashed.{lookup_is}
 use Rattle.names.proofs.Same.{both_true, same-is, is_same, not_same}
 use Rattle.names.proofs.Entries.{text_is, end_below, bytes_are}
 use Rattle.names.proofs.Made.{Small, sort-of_next}
 use Rattle.ntline.specs.declared.lines.Span.{Span}
+use Rattle.ntline.specs.Kinds.{sort_number}
 use Rattle.ntline.specs.Grammar.{Term}
 use Rattle.ntline.specs.Lines.{Source, meant_by}
 use Rattle.nttext.specs.Texts.{text_of_term, sort_of_term}
 use Rattle.nttext.specs.Standing.{Stands, LaidIn}
-use Rattle.ntnumber.specs.declared.Numbered.{Numbered}
-use Rattle.ntnumber.specs.Numbering.{numbered, found_number, numbered_of, LyingAs, ListAsLong, Numbering}
+use Rattle.ntnumber.specs.Numbering.{Told, numbered, found_number, numbered_of, LyingAs, ListAsLong, Numbering}
 
 -- ---- a term's sort
 
@@ -41,7 +40,7 @@ meant_sort s h = go (eqb s.sort 0) (eqb s.sort 1) refl refl
     go false false p q = let a = eqb-false s.sort 0 p in let c = eqb-false s.sort 1 q in rw (p, q) (omega arith)
 
 module _ (b : List ℕ) (end : ℕ) (t : Span) (m : Term) (s : Stands b end t m) where
-  pub stands-sort : t.sort ≡ sort_of_term m
+  pub stands-sort : sort_number t.sort ≡ sort_of_term m
   stands-sort = s.span_is.sort_is ∙ sym (ap sort_of_term (sym s.means) ∙ meant_sort _ s.is_term)
 
   pub stands-few : sort_of_term m ≤ 2
@@ -109,7 +108,7 @@ module _ (l : NameLanes) (names : ℕ) (h : Listing l names) (m : NameLanes) (t 
   small = let e = tab-length names (entry_at l) in let f = h.few in let r = h.room in omega arith
 
   pub numbering_by : (e : Entered) → e ≡ entered_by (length l.terms) (length l.text) (entries_of l names) (sort_of_term t) (text_of_term t)
-      → (r : Numbered) → r ≡ numbered_of e names → Listing m (count_after e names) → entries_of m (count_after e names) ≡ entries_after e (entries_of l names) (text_of_term t)
+      → (r : Told) → r ≡ numbered_of e names → Listing m (count_after e names) → entries_of m (count_after e names) ≡ entries_after e (entries_of l names) (text_of_term t)
       → Numbering l names m t r
   numbering_by e a r q g w = record {
     answer = e;
@@ -166,11 +165,11 @@ take-written b at v h =
     ∙ ap (take (length v)) (drop_at (take at b) (v ++ drop (at + length v) b) at (length-take-le at b h))
     ∙ take_at v (drop (at + length v) b) (length v) refl
 
-found-known : (k : Lookup) (next n : ℕ) → Number n ≡ found_of k next → k ≡ Lookup.number n
+found-known : (k : Lookup) (next n : ℕ) → Ok n ≡ found_of k next → k ≡ Lookup.number n
 found-known (Lookup.number v) next n e = let f : n ≡ v = cc in ap Lookup.number (sym f)
 found-known Lookup.none next n e = absurd (let z : ◌≡◌ {A = ℕ} 0 1 = cc in omega arith)
 
-found-missing : (k : Lookup) (next n : ℕ) → Missing n ≡ found_of k next → (k ≡ Lookup.none) × (n ≡ next)
+found-missing : (k : Lookup) (next n : ℕ) → Err n ≡ found_of k next → (k ≡ Lookup.none) × (n ≡ next)
 found-missing (Lookup.number v) next n e = absurd (let z : ◌≡◌ {A = ℕ} 0 1 = cc in omega arith)
 found-missing Lookup.none next n e = let f : n ≡ next = cc in (refl, f)
 
@@ -207,19 +206,29 @@ module _ (l : NameLanes) (names : ℕ) (h : Listing l names) (t : Term) (few : s
   no_room : fits ≡ false → has_room_lem (length l.terms) (length l.text) (entries_of l names) word ≡ false
   no_room e = rw (bytes-room, e) (and-false (ltb (length (entries_of l names)) (length l.terms)))
 
-  pub numbered-unlaid : fits ≡ false → (r : Numbered) → r ≡ found_number (known (entries_of (lanes_of l.terms l.ends text') names) (sort_of_term t) (text_of_term t)) names
-      → Numbering l names (lanes_of l.terms l.ends text') t r
+  pub numbered-unlaid : fits ≡ false → (o : Option ℕ) → lookup_is o ≡ known (entries_of (lanes_of l.terms l.ends text') names) (sort_of_term t) (text_of_term t)
+      → Numbering l names (lanes_of l.terms l.ends text') t (found_number (lookup_is o) names)
   unfolding entered_by
-  numbered-unlaid e r q = go (known seen-es sort word) refl
+  numbered-unlaid e o s = go (known seen-es sort word) refl
     where
-      go : (x : Lookup) → known seen-es sort word ≡ x → Numbering l names k t r
+      q : found_number (lookup_is o) names ≡ found_number (known (entries_of k names) (sort_of_term t) (text_of_term t)) names
+      q = ap (λ (x : Lookup). found_number x names) s
+
+      go : (x : Lookup) → known seen-es sort word ≡ x → Numbering l names k t (found_number (lookup_is o) names)
       go (Lookup.number n) p =
-          numbering_by l names h k t few long_as (Listed n) (rw p refl) r (q ∙ rw (laid-entries, p) refl) laid-listing laid-entries
+          numbering_by l names h k t few long_as (Listed n) (rw p refl) (found_number (lookup_is o) names) (q ∙ rw (laid-entries, p) refl) laid-listing laid-entries
       go Lookup.none p =
-          numbering_by l names h k t few long_as Full (rw (p, no_room e) refl) r (q ∙ rw (laid-entries, p) refl) laid-listing laid-entries
+          numbering_by l names h k t few long_as Full (rw (p, no_room e) refl) (found_number (lookup_is o) names) (q ∙ rw (laid-entries, p) refl) laid-listing laid-entries
 
   pub laid-after : fits ≡ true → from ≤ to
   laid-after fit = let e = laid.to_is fit in omega arith
+
+  pub laid-within : fits ≡ true → to ≤ length text'
+  laid-within fit =
+      let e = laid.to_is fit in
+      let f = laid.as_long in
+      let g = leb-true (from + length word) (length l.text) (sym laid.fits_is ∙ fit) in
+      omega arith
 
   -- it fits, and lies behind the last
   module _ (yes : fits ≡ true) (size : ℕ) (is-size : size ≡ to - from) where
@@ -239,19 +248,19 @@ module _ (l : NameLanes) (names : ℕ) (h : Listing l names) (t : Term) (few : s
     laid_word = rw (word_size, laid.bytes_are yes) (take-written l.text from word (let f = inside in omega arith))
 
     module _ (sort' : ℕ) (same-sort : sort' ≡ sort_of_term t) where
-      pub numbered-listed : (n : ℕ) → Number n ≡ number_for (entries_of (lanes_of l.terms l.ends text') names) sort' (take size (drop from text'))
-          → (r : Numbered) → r ≡ numbered false n names → Numbering l names (lanes_of l.terms l.ends text') t r
+      pub numbered-listed : (n : ℕ) → Ok n ≡ number_for (entries_of (lanes_of l.terms l.ends text') names) sort' (take size (drop from text'))
+          → (r : Told) → r ≡ numbered false n names → Numbering l names (lanes_of l.terms l.ends text') t r
       unfolding entered_by
       numbered-listed n e r q =
-          let f : Number n ≡ number_for (entries_of l names) sort word = rw (same-sort, laid_word, laid-entries) at e in
+          let f : Ok n ≡ number_for (entries_of l names) sort word = rw (same-sort, laid_word, laid-entries) at e in
           let p = found-known (known (entries_of l names) sort word) (next_of (entries_of l names) sort) n f in
           numbering_by l names h k t few long_as (Listed n) (rw p refl) r q laid-listing laid-entries
 
-      pub numbered-entered : (n : ℕ) → Missing n ≡ number_for (entries_of (lanes_of l.terms l.ends text') names) sort' (take size (drop from text'))
-          → (m : NameLanes) (r : Numbered) → ListAsLong (lanes_of l.terms l.ends text') m → LyingAs (lanes_of l.terms l.ends text') m names n size r → Numbering l names m t r
+      pub numbered-entered : (n : ℕ) → Err n ≡ number_for (entries_of (lanes_of l.terms l.ends text') names) sort' (take size (drop from text'))
+          → (m : NameLanes) (r : Told) → ListAsLong (lanes_of l.terms l.ends text') m → LyingAs (lanes_of l.terms l.ends text') m names n size r → Numbering l names m t r
       unfolding entered_by
       numbered-entered n e m r g a =
-          let f : Missing n ≡ number_for (entries_of l names) sort word = rw (same-sort, laid_word, laid-entries) at e in
+          let f : Err n ≡ number_for (entries_of l names) sort word = rw (same-sort, laid_word, laid-entries) at e in
           let p = found-missing (known (entries_of l names) sort word) (next_of (entries_of l names) sort) n f in
           let room : has_room_lem (length l.terms) (length l.text) (entries_of l names) word ≡ ltb names (length l.terms)
           = rw (bytes-room, yes, tab-length names (entry_at l)) (and-true (ltb names (length l.terms))) in

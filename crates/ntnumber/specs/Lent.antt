@@ -1,24 +1,21 @@
--- A names list and its hashes as they are lent: where a call begins and where it ends.
-use Rattle.std.specs.Prelude.{List, ℕ}
-use Rattle.std.specs.Borrow.{Bor}
-use denote.Triple.Both.{Both}
-use Rattle.names.specs.Names.{lanes_of, entries_of}
-use Rattle.names.specs.Lent.{Lane, names_lent}
+-- A names list and its hashes as they are lent to be changed.
+use Rattle.std.specs.Prelude.{◌≡◌}
+use Rattle.names.specs.Names.{NameLanes, lanes_of, entries_of}
 use Rattle.names.specs.Hashed.{Hashed}
-use Rattle.ntnumber.specs.declared.Numbered.{Numbered}
-use Rattle.ntnumber.specs.Numbering.{LyingAs, HashEntered}
+use Rattle.ntnumber.specs.declared.list.NameList.{NameList}
+
+-- the lanes as they stand
+abbrev pub list_in : NameList → NameLanes
+list_in l = lanes_of l.terms.now l.ends.now l.text.now
+
+-- the same lanes are lent: what stands in them may be another
+pub record KeptList (l m : NameList) : Type 0 where
+  pub same_terms : m.terms.ghost_name ≡ l.terms.ghost_name
+  pub same_ends : m.ends.ghost_name ≡ l.ends.ghost_name
+  pub same_text : m.text.ghost_name ≡ l.text.ghost_name
+  pub same_heads : m.heads.ghost_name ≡ l.heads.ghost_name
+  pub same_next : m.next.ghost_name ≡ l.next.ghost_name
 
 -- the entries can be found by their hashes
-abbrev pub HashedLent : Lane → Lane → Lane → ℕ → Lane → Lane → Type 0
-HashedLent terms ends text names heads next = Hashed (entries_of (names_lent terms ends text) names) heads.now next.now
-
-abbrev pub HashedAfter : Both Lane Lane → Both Lane Lane → Both Lane Lane → ℕ → Both Lane Lane → Both Lane Lane → Type 0
-HashedAfter terms ends text names heads next = HashedLent terms.exit ends.exit text.exit names heads.exit next.exit
-
--- a text is entered where it lies
-abbrev pub LyingEntered : Both Lane Lane → Both Lane Lane → Both (Bor (List ℕ)) (Bor (List ℕ)) → ℕ → ℕ → ℕ → Numbered → Type 0
-LyingEntered terms ends text names n size r =
-    LyingAs (lanes_of terms.entry.now ends.entry.now text.entry.now) (lanes_of terms.exit.now ends.exit.now text.entry.now) names n size r
-
-abbrev pub HashFollows : Both Lane Lane → Both Lane Lane → ℕ → ℕ → Numbered → Type 0
-HashFollows heads next names h r = HashEntered heads.entry.now next.entry.now heads.exit.now next.exit.now names h r
+abbrev pub HashedIn : NameList → Type 0
+HashedIn l = Hashed (entries_of (list_in l) l.count) l.heads.now l.next.now

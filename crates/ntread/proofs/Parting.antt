@@ -1,15 +1,15 @@
 -- A file's lines by positions: an EOL begins none, and a line goes on to its end. Assumes nothing.
 use mathlib.Core.Path.{◌≡◌, refl, ap, subst, ◌∙◌}
-use mathlib.Core.Bool.{Bool, true, false, ◌||◌, true≢false}
+use mathlib.Core.Bool.{Bool, true, false}
 use mathlib.Core.List.{List, [], ◌∷◌}
 use Prim.Native.Nat.{ℕ, zero, suc, ◌+◌, ◌-◌, ◌≤◌, ◌<◌}
 use native.Mathlib.Numerals.{add-one}
 use native.Mathlib.Omega.{arith}
 use native.Mathlib.Decide.{dec_lt}
-use lib.Dec.{eqb, leb, ltb}
+use lib.Dec.{ltb}
 use lib.ListN.{length, get_or, drop, drop_of_length-le}
 use lib.Seq.{slice, slice-cons, slice_empty, drop-cons}
-use borrow.Author.Tests.{leb-false, ltb-true, ltb-false, eq-eqb, ne_eqb}
+use borrow.Author.Tests.{ltb-true, ltb-false}
 use Rattle.ntread.specs.Reading.{is_eol, line_at, begins_line, lines_from}
 use Rattle.ntread.specs.Inner.{Inside, LineEnd}
 
@@ -87,25 +87,3 @@ module _ (b : List ℕ) (at i : ℕ) (run : Inside b at i) where
 
 pub inside-none : (b : List ℕ) (at : ℕ) → at ≤ length b → Inside b at at
 inside-none b at h = record { from = omega arith; within = h; each = λ k p q. absurd (omega arith) }
-
--- one byte more of a block
-pub high_more : (b : List ℕ) (at k : ℕ) (low : Bool) → (low ≡ false → (j : ℕ) → j < k → is_eol (get_or b (at + j) 0) ≡ false) →
-    (low || leb (get_or b (at + k) 0) 13) ≡ false → (j : ℕ) → j < k + 1 → is_eol (get_or b (at + j) 0) ≡ false
-high_more b at k true before e j h = absurd (true≢false e)
-high_more b at k false before e j h = which (dec_lt j k)
-  where
-    which : Dec (j < k) → is_eol (get_or b (at + j) 0) ≡ false
-    which (yes l) = before refl j l
-    which (no l) =
-        let is : k ≡ j = omega arith in
-        let high : 13 < get_or b (at + k) 0 = leb-false (get_or b (at + k) 0) 13 e in
-        subst (λ (n : ℕ). is_eol (get_or b (at + n) 0) ≡ false) is
-        (rw (ne_eqb (get_or b (at + k) 0) 13 (λ q. omega arith), ne_eqb (get_or b (at + k) 0) 10 (λ q. omega arith)) refl)
-
--- ---- which bytes part lines
-
-pub eol_cr : (x : ℕ) → x ≡ 13 → true ≡ is_eol x
-eol_cr x e = rw (eq-eqb x 13 e) refl
-
-pub eol_lf : (x : ℕ) → (x ≡ 13 → ⊥) → eqb x 10 ≡ is_eol x
-eol_lf x e = rw (ne_eqb x 13 e) refl

@@ -17,11 +17,10 @@ use Rattle.utf8.specs.Texts.{seen}
 use Rattle.names.specs.Names.{Entry, NameLanes, entries_of}
 use Rattle.names.specs.Entering.{Listing}
 use Rattle.ntline.specs.Lines.{line_of, said_by}
-use Rattle.ntenter.specs.declared.LineDone.{LineDone}
 use Rattle.ntenter.specs.Line.{Read, Room, read_line, refused, room_of}
 use Rattle.ntread.specs.Reading.{LineAt, is_eol, lines_from, read_lines}
 use Rattle.ntnumber.specs.Numbering.{ListAsLong}
-use Rattle.ntenter.specs.Inner.{LineInto, LineRead}
+use Rattle.ntenter.specs.Inner.{LineTold, LineInto, LineRead}
 use Rattle.ntread.specs.Inner.{LineEnd, Fresh, all_lines_lem, LinesRead, refused_done}
 use Rattle.ntread.proofs.Parting.{lines_over, lines_skip, lines_line}
 use Rattle.ntenter.proofs.Threes.{list_long-self, list_long-on}
@@ -76,7 +75,7 @@ module _ (kind a : ℕ) (b : List ℕ) (l : Lanes) (n : NameLanes) (fresh : Fres
         }
 
     -- a line
-    module _ (end : ℕ) (e : LineEnd b at end) (q : at < end) (m' : Lanes) (k' : NameLanes) (d : LineDone)
+    module _ (end : ℕ) (e : LineEnd b at end) (q : at < end) (m' : Lanes) (k' : NameLanes) (d : LineTold)
         (r : LineRead kind a (said_by (line_of (seen b at end))) m m' count k k' names d) where
       abbrev rest : List Entry → List Row → Read
       rest es rows = read_lines kind a (room_of l n) (lines_from end (drop end b)) es rows

@@ -24,7 +24,7 @@ use Rattle.names.proofs.Meaning.{listing_start}
 use Rattle.ntread.specs.declared.TriplesRead.{TriplesRead}
 use Rattle.ntenter.specs.Line.{Read, refused, read_as, room_of}
 use Rattle.ntread.specs.Reading.{lent_checks, read_file, read_lines, lines_from, is_kept, filled_names, ReadingTriples}
-use Rattle.ntread.specs.Inner.{Fresh, refused_done, all_lines_lem, LinesRead, ReadNew, zeroed_names}
+use Rattle.ntread.specs.Inner.{Fresh, refused_done, all_lines_lem, LinesRead, ReadNew, zeroed_names, keeps_lem}
 use Rattle.ntread.proofs.Filled.{zeros_filled, nothing-filled, zeroed-names_alike}
 
 -- ---- the checks of what is lent
@@ -130,22 +130,15 @@ module _ (kind a : ℕ) (b : List ℕ) (l : Lanes) (n : NameLanes) where
       unfolding read_file
       is-refused = rw (is-verdict, ne_eqb number 0 (λ z. omega arith)) refl
 
-    kept-is : is_kept kind a b l n ≡ eqb number 11 || eqb number 13
+    kept-is : is_kept kind a b l n ≡ keeps_lem number
     kept-is = rw (← e) refl
 
-    pub kept-lanes : (number ≡ 11) → (d : TriplesRead) → d ≡ refused_done number 0 → Done kind a b l l n n d
-    kept-lanes q d r =
-        let kept : is_kept kind a b l n ≡ true = kept-is ∙ rw (eq-eqb number 11 q) refl in
-        rw r (as_read (refused number 0) (is-refused (omega arith)) true kept l n (refused_done number 0) refl refl refl refl refl)
+    pub kept_refused : 0 < number → keeps_lem number ≡ true → (d : TriplesRead) → d ≡ refused_done number 0 → Done kind a b l l n n d
+    kept_refused h q d r = rw r (as_read (refused number 0) (is-refused h) true (kept-is ∙ q) l n (refused_done number 0) refl refl refl refl refl)
 
-    pub kept-long : (number ≡ 11 → ⊥) → (number ≡ 13) → (d : TriplesRead) → d ≡ refused_done number 0 → Done kind a b l l n n d
-    kept-long other q d r =
-        let kept : is_kept kind a b l n ≡ true = kept-is ∙ rw (ne_eqb number 11 other, eq-eqb number 13 q) refl in
-        rw r (as_read (refused number 0) (is-refused (omega arith)) true kept l n (refused_done number 0) refl refl refl refl refl)
-
-    module _ (no : number ≡ 11 → ⊥) (nor : number ≡ 13 → ⊥) where
+    module _ (no : keeps_lem number ≡ false) where
       wiped : is_kept kind a b l n ≡ false
-      wiped = kept-is ∙ rw (ne_eqb number 11 no, ne_eqb number 13 nor) refl
+      wiped = kept-is ∙ no
 
       pub wiped_refused : 0 < number → (m : Lanes) (k : NameLanes) → (m ≡ zeroed l) × (k ≡ zeroed_names n) → (d : TriplesRead) → d ≡ refused_done number 0 → Done kind a b l m n k d
       wiped_refused h m k w d r =

@@ -1,6 +1,8 @@
 -- What the parts of reading promise one another.
-use Rattle.std.specs.Prelude.{◌≡◌, true, false, cond, List, [], ℕ, ◌≤◌, ◌<◌, length, get_or, replicate, eqb}
+use Rattle.std.specs.Prelude.{◌≡◌, Bool, true, false, cond, ◌||◌, Result, Ok, Err, List, [], ℕ, ◌≤◌, ◌<◌, length, get_or, replicate, eqb}
 use Rattle.term.specs.Refusal.{verdict}
+use Rattle.term.specs.Refused.{refusal_number}
+use Rattle.term.specs.declared.refusal.Refused.{Refused}
 use Rattle.annotation.specs.Kinds.{is_legal}
 use Rattle.table.specs.Rows.{Lanes, AsLong, row, row_at, rows_of, filled}
 use Rattle.table.specs.Sound.{Sound}
@@ -39,6 +41,11 @@ refused_done number place = record { number = number; place = place; count = 0; 
 abbrev pub all_lines_lem : ℕ → ℕ → List ℕ → Lanes → NameLanes → Read
 all_lines_lem kind a b l n = read_lines kind a (room_of l n) (lines_from 0 b) [] []
 
+-- what the code answers of all lines, where table and list then have so many rows and names
+abbrev pub lines_told : ℕ → ℕ → Result (Unit {0}) Refused → TriplesRead
+lines_told count names (Ok u) = record { number = 0; place = 0; count = count; names = names }
+lines_told count names (Err e) = refused_done (refusal_number e.why) e.place
+
 -- all lines are read, or one is refused
 pub record LinesRead (kind a : ℕ) (b : List ℕ) (l m : Lanes) (n k : NameLanes) (d : TriplesRead) : Type 0 where
   pub as_long : AsLong l m
@@ -62,3 +69,7 @@ ReadNew kind a b l m n k d = ReadInto (all_lines_lem kind a b l n) l m n k d
 
 abbrev pub zeroed_names : NameLanes → NameLanes
 zeroed_names n = lanes_of (replicate (length n.terms) 0) (replicate (length n.ends) 0) (replicate (length n.text) 0)
+
+-- "11 and 13 change nothing": of a refusal's number
+abbrev pub keeps_lem : ℕ → Bool
+keeps_lem number = eqb number 11 || eqb number 13

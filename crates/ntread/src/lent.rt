@@ -1,16 +1,17 @@
-// What is lent: refused, or wiped.
-ghost use Rattle.std.specs.Prelude.{◌≡◌, ◌++◌, ◌-◌, ◌≤◌, length, take, replicate};
+// What is lent: judged, or wiped.
+ghost use Rattle.std.specs.Prelude.{◌≡◌, ◌++◌, ◌-◌, ◌≤◌, length, take, replicate, IfOk};
 ghost use Rattle.term.specs.Refusal.{first};
-ghost use Rattle.table.specs.Rows.{lanes, zeroed};
-ghost use Rattle.table.specs.Lent.{before, after};
+ghost use Rattle.term.specs.Refused.{number_in, refusal_number};
+ghost use Rattle.annotation.specs.Numbered.{kind_number};
+ghost use Rattle.table.specs.Lent.{lanes_seen};
+ghost use Rattle.names.specs.Names.{lanes_of};
 ghost use Rattle.names.specs.Lent.{names_before, names_after};
 ghost use Rattle.ntread.specs.Reading.{lent_checks};
-ghost use Rattle.ntread.specs.Inner.{zeroed_names};
-ghost use Rattle.names.specs.Names.{lanes_of};
+ghost use Rattle.ntread.specs.Inner.{zeroed_names, keeps_lem};
 
-use table::{LANES_UNFIT, unfit, wipe, zero_u16};
-
-pub const TOO_LONG: u8 = 13;
+use annotation::Kind;
+use table::Rows;
+use term::Refusal;
 
 pub const LONGEST_FILE: usize = 65535;
 
@@ -19,58 +20,45 @@ pub fn zero_u8(lane: &mut [u8], from: usize)
     requires { from ≤ length lane.old }
     ensures { lane.new ≡ take from lane.old ++ replicate (length lane.old - from) 0 }
 {
-    let mut i = from;
-    while i < lane.len() {
-        lane[i] = 0;
-        i += 1;
-    }
+    lane[from..].fill(0);
 }
 
-// All lanes zeroed, the table's and the list's.
-pub fn wipe_all(
-    subj: &mut [u16],
-    pred: &mut [u16],
-    obj: &mut [u16],
-    ann: &mut [u64],
-    terms: &mut [u16],
-    ends: &mut [u16],
-    text: &mut [u8],
-)
-    ensures { (after subj pred obj ann ≡ zeroed (before subj pred obj ann)) × (names_after terms ends text ≡ zeroed_names (names_before terms ends text)) }
+// The list's lanes zeroed.
+pub fn wipe_names(terms: &mut [u16], ends: &mut [u16], text: &mut [u8])
+    ensures { names_after terms ends text ≡ zeroed_names (names_before terms ends text) }
 {
-    wipe(subj, pred, obj, ann);
-    zero_u16(terms);
-    zero_u16(ends);
-    zero_u8(text, 0);
+    terms.fill(0);
+    ends.fill(0);
+    text.fill(0);
 }
 
 // The checks of what is lent, in their order.
-pub fn lent_refusal(
+pub fn check_lent(
     kind: u8,
     a: u64,
     file: &[u8],
-    subj: &[u16],
-    pred: &[u16],
-    obj: &[u16],
-    ann: &[u64],
+    rows: &Rows,
     terms: &[u16],
     ends: &[u16],
     text: &[u8],
-) -> u8
-    ensures { result ≡ (first (lent_checks kind a file.now (lanes subj.now pred.now obj.now ann.now) (lanes_of terms.now ends.now text.now))).number }
+) -> Result<Kind, Refusal>
+    ensures judged { number_in result ≡ (first (lent_checks kind a file.now (lanes_seen rows.now) (lanes_of terms.now ends.now text.now))).number }
+    ensures known { IfOk result (λ k. kind_number k ≡ kind) }
 {
-    let wrong = annotation::kind_refusal(kind);
-    if wrong > 0 {
-        return wrong;
-    }
-    if unfit(subj, pred, obj, ann) {
-        return LANES_UNFIT;
-    }
-    if names::is_unfit(terms, ends, text) {
-        return LANES_UNFIT;
+    let kind = Kind::try_from(kind)?;
+    if rows.is_unfit() || names::is_unfit(terms, ends, text) {
+        return Err(Refusal::LanesUnfit);
     }
     if LONGEST_FILE < file.len() {
-        return TOO_LONG;
+        return Err(Refusal::TooLong);
     }
-    annotation::annotation_refusal(kind, a)
+    kind.check(a)?;
+    Ok(kind)
+}
+
+// Whether what is refused so stays as it was lent.
+pub fn keeps(why: Refusal) -> bool
+    ensures { result ≡ keeps_lem (refusal_number why) }
+{
+    matches!(why, Refusal::LanesUnfit | Refusal::TooLong)
 }

@@ -1,17 +1,19 @@
 // Line after line into the lent lanes.
-ghost use Rattle.std.specs.Prelude.{◌≡◌, false, [], ℕ, ◌+◌, ◌≤◌, ◌<◌, length, get_or};
-ghost use Rattle.table.specs.Lent.{before, after, lent};
-ghost use Rattle.names.specs.Lent.{names_lent, names_before, names_after};
-ghost use Rattle.names.specs.Hashed.{Hashed};
+ghost use Rattle.std.specs.Prelude.{◌≡◌, false, ℕ, ◌+◌, ◌≤◌, ◌<◌, length, get_or};
+ghost use Rattle.annotation.specs.Numbered.{kind_number};
+ghost use Rattle.table.specs.Lent.{lanes_in, Kept};
+ghost use Rattle.ntnumber.specs.Lent.{list_in, KeptList, HashedIn};
 ghost use Rattle.ntread.specs.Reading.{is_eol};
-ghost use Rattle.ntread.specs.Inner.{Inside, LineEnd, Fresh, LinesRead};
+ghost use Rattle.ntread.specs.Inner.{Inside, LineEnd, Fresh, lines_told, LinesRead};
 
-use crate::TriplesRead;
 use ntenter::read_line;
+use ntnumber::NameList;
+use table::Table;
+use term::Refused;
 
-const CR: u8 = 13;
+const CR: u8 = b'\r';
 
-const LF: u8 = 10;
+const LF: u8 = b'\n';
 
 // As many bytes as are looked at together.
 const BLOCK: usize = 16;
@@ -19,10 +21,7 @@ const BLOCK: usize = 16;
 fn is_eol(x: u8) -> bool
     ensures { result ≡ is_eol x }
 {
-    if x == CR {
-        return true;
-    }
-    x == LF
+    x == CR || x == LF
 }
 
 // Whether a block has a byte that is no higher than CR. The compiler looks at them together, so none is the first.
@@ -31,15 +30,13 @@ fn has_low(b: &[u8], at: usize) -> bool
     ensures { result ≡ false → (k : ℕ) → k < 16 → is_eol (get_or b.now (at + k) 0) ≡ false }
 {
     let mut low = false;
-    let mut k = 0;
-    while k < BLOCK {
-        low = low | (b[at + k] <= CR);
-        k += 1;
+    for k in 0..BLOCK {
+        low |= b[at + k] <= CR;
     }
     low
 }
 
-// Behind the blocks from `at` on that have none.
+// Behind the blocks from `at` on that have none. By places: of chunks the place would be counted beside them.
 fn high_blocks(b: &[u8], at: usize) -> usize
     requires { at ≤ length b.now }
     ensures { Inside b.now at result }
@@ -59,63 +56,36 @@ fn line_end(b: &[u8], at: usize) -> usize
     requires { at ≤ length b.now }
     ensures { LineEnd b.now at result }
 {
-    let mut i = high_blocks(b, at);
-    while i < b.len() {
+    for i in high_blocks(b, at)..b.len() {
         if is_eol(b[i]) {
             return i;
         }
-        i += 1;
     }
-    i
+    b.len()
 }
 
 // Every line in order, until one is refused.
-pub fn read_lines(
-    kind: u8,
-    a: u64,
-    b: &[u8],
-    subj: &mut [u16],
-    pred: &mut [u16],
-    obj: &mut [u16],
-    ann: &mut [u64],
-    terms: &mut [u16],
-    ends: &mut [u16],
-    text: &mut [u8],
-    heads: &mut [u16],
-    next: &mut [u16],
-) -> TriplesRead
-    requires { Fresh kind a (lent subj pred obj ann) (names_lent terms ends text) × Hashed [] heads.old next.old }
-    ensures { LinesRead kind a b.now (before subj pred obj ann) (after subj pred obj ann) (names_before terms ends text) (names_after terms ends text) result }
+pub fn read_lines(table: &mut Table, list: &mut NameList, a: u64, b: &[u8]) -> Result<(), Refused>
+    requires fresh { Fresh (kind_number table.old.kind) a (lanes_in table.old) (list_in list.old) }
+    requires no_row { table.old.count ≡ 0 }
+    requires no_name { list.old.count ≡ 0 }
+    requires hashed { HashedIn list.old }
+    ensures kept { Kept table.old table.new }
+    ensures list_kept { KeptList list.old list.new }
+    ensures read { LinesRead (kind_number table.old.kind) a b.now (lanes_in table.old) (lanes_in table.new) (list_in list.old) (list_in list.new) (lines_told table.new.count list.new.count result) }
 {
     let mut at = 0;
-    let mut count = 0;
-    let mut names = 0;
     while at < b.len() {
         let end = line_end(b, at);
         if at < end {
-            let r = read_line(
-                kind, a, b, at, end, subj, pred, obj, ann, count, terms, ends, text, names, heads,
-                next,
-            );
-            if r.number > 0 {
-                return TriplesRead {
-                    number: r.number,
-                    place: at,
-                    count: 0,
-                    names: 0,
-                };
+            match read_line(table, list, a, b, at, end) {
+                Ok(()) => {}
+                Err(e) => return Err(e.at(at)),
             }
-            count = r.count;
-            names = r.names;
             at = end;
         } else {
             at += 1;
         }
     }
-    TriplesRead {
-        number: 0,
-        place: 0,
-        count,
-        names,
-    }
+    Ok(())
 }

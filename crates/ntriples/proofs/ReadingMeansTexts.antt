@@ -10,10 +10,8 @@ use borrow.Author.Tests.{leb-true, le-leb, ltb-true, lt-ltb}
 use Rattle.ground.specs.Lists.{All}
 use Rattle.ground.proofs.Each.{all_append}
 use Rattle.term.specs.Term.{sort_of}
-use Rattle.names.specs.declared.Entered.{Entered}
-use Rattle.names.specs.declared.Entered.TheVariants.{Listed, New, Full}
 use Rattle.names.specs.Names.{Entry, entry}
-use Rattle.names.specs.Entering.{same_text_lem, is_of, Lookup, lookup, bytes_of, five_number, lookup_five, or_else, known, next_of, has_room_lem, answer_of, entered_by, entries_after, Made}
+use Rattle.names.specs.Entering.{Entered, Listed, New, Full, same_text_lem, is_of, Lookup, lookup, bytes_of, five_number, lookup_five, or_else, known, next_of, has_room_lem, answer_of, entered_by, entries_after, Made}
 use Rattle.names.proofs.Same.{both_true}
 use Rattle.names.proofs.Made.{sort-of_next}
 use Rattle.names.proofs.Meaning.{known-stays, entering_known, number_answered}

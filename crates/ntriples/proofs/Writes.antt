@@ -18,11 +18,9 @@ use Rattle.table.specs.Sound.{Sound}
 use Rattle.table.proofs.Judging.{table-numbered}
 use Rattle.table.proofs.Soundness.{passes-sound}
 use Rattle.names.specs.Names.{Entry, NameLanes, entries_of, is_unfit_list}
-use Rattle.ntwrite.specs.Written.{Indexed}
 use Rattle.ntriples.specs.Writing.{rows_writable, file_bytes, write_checks, write_done_lem, WritingTriples}
-use Rattle.ntriples.specs.declared.TriplesWritten.{TriplesWritten}
-use Rattle.ntriples.specs.Inner.{refused_done, lines_bytes, Judged, Lowest}
-use Rattle.ntriples.proofs.Rows.{file_is, lowest_stops, lowest_passes}
+use Rattle.ntriples.specs.Inner.{lines_bytes, Judged, Lowest}
+use Rattle.ntriples.proofs.Rows.{lowest_stops, lowest_passes}
 
 -- lanes of a list that 11 lets pass
 pub record ListFit (n : NameLanes) : Type 0 where
@@ -64,11 +62,6 @@ module _ (kind : ℕ) (l : Lanes) (count : ℕ) (n : NameLanes) (names : ℕ) (o
       let t : write_done_lem kind l count n names out ≡ false = rw (← e) (ne_eqb v.number 0 (λ z. omega arith)) in
       record { verdict_is = e; size_is = rw t refl; out_is = rw t refl }
 
-  -- as the code gives a refusal back
-  pub answered : (d : TriplesWritten) (number place : ℕ) → d ≡ refused_done number place → WritingTriples kind l count n names out out number place 0 →
-      WritingTriples kind l count n names out out d.number d.place d.size
-  answered d number place e w = rw e w
-
   module _ (v : Verdict) (ev : v ≡ first (table_checks kind l count)) where
     pub refused-table : 0 < v.number → WritingTriples kind l count n names out out v.number v.place 0
     refused-table h = refused-by v (ev ∙ sym (first_stops (table_checks kind l count) listed (rw (← ev) h))) h
@@ -98,38 +91,23 @@ module _ (kind : ℕ) (l : Lanes) (count : ℕ) (n : NameLanes) (names : ℕ) (o
             past_count : first (write_checks kind l count n names out) ≡ first rows
             past_count = past_lanes ∙ first_passes (ltb (length n.terms) names) 14 0 rows (le-ltb (length n.terms) names few)
 
-            pub few-names : names ≤ 512
-            few-names = let f = list_fit n (sym eu ∙ fit) in let k = f.few in omega arith
-
-            pub equal-lanes : length n.ends ≡ length n.terms
-            equal-lanes = (list_fit n (sym eu ∙ fit)).equal
-
-            pub to-judged : (slots : List ℕ) → Indexed slots n.terms names → Judged n names slots l.subj l.pred l.obj count
-            to-judged slots index =
+            pub to-judged : Judged l count
+            to-judged =
                 let s = sound in
-                let f = list_fit n (sym eu ∙ fit) in
                 let w = s.within in
                 let p = s.pred_long in
                 let o = s.obj_long in
+                let a = s.ann_long in
                 let k = s.long in
-                record {
-                  fit = record { room = few; equal = f.equal; short = f.short; index = index };
-                  in_subj = w;
-                  in_pred = omega arith;
-                  in_obj = omega arith;
-                  few = omega arith;
-                }
+                record { in_subj = w; in_pred = omega arith; in_obj = omega arith; in_ann = omega arith; few = omega arith }
 
-            module _ (r : ℕ) (low : Lowest (entries_of n names) l.subj l.pred l.obj count r) where
+            module _ (r : ℕ) (low : Lowest (entries_of n names) l count r) where
               pub refused-row : r < count → WritingTriples kind l count n names out out 39 r 0
               refused-row h = refused-by (verdict 39 r) (sym (past_count ∙ lowest_stops es l room count r low h)) (omega arith)
 
-              module _ (all : count ≤ r) (size : ℕ) (sized : size ≡ length (lines_bytes (entries_of n names) l.subj l.pred l.obj count)) where
+              module _ (all : count ≤ r) (size : ℕ) (size_is : size ≡ length (lines_bytes (entries_of n names) l count)) where
                 past_rows : first (write_checks kind l count n names out) ≡ first room
                 past_rows = past_count ∙ lowest_passes es l room count r low all
-
-                size_is : size ≡ length (file_bytes (entries_of n names) (rows_of l count))
-                size_is = sized ∙ ap length (file_is es l count)
 
                 pub refused-room : length out < size → WritingTriples kind l count n names out out 12 0 0
                 refused-room h =
@@ -141,7 +119,7 @@ module _ (kind : ℕ) (l : Lanes) (count : ℕ) (n : NameLanes) (names : ℕ) (o
                 unfolding written
                 whole bytes = let e : 0 + length bytes ≡ length bytes = omega arith in rw e refl
 
-                pub all_written : size ≤ length out → (after : List ℕ) → after ≡ written out 0 (lines_bytes (entries_of n names) l.subj l.pred l.obj count) → WritingTriples kind l count n names out after 0 0 size
+                pub all_written : size ≤ length out → (after : List ℕ) → after ≡ written out 0 (lines_bytes (entries_of n names) l count) → WritingTriples kind l count n names out after 0 0 size
                 all_written h after e =
                     let d : first (write_checks kind l count n names out) ≡ done
                     = past_rows ∙ first_passes (ltb (length out) (length (file_bytes es (rows_of l count)))) 12 0 [] (le-ltb (length out) (length (file_bytes es (rows_of l count))) (rw (← size_is) h)) ∙ first-none in
@@ -149,7 +127,7 @@ module _ (kind : ℕ) (l : Lanes) (count : ℕ) (n : NameLanes) (names : ℕ) (o
                     record {
                       verdict_is = sym d;
                       size_is = rw t size_is;
-                      out_is = rw t (e ∙ ap (written out 0) (file_is es l count) ∙ whole (file_bytes es (rows_of l count)));
+                      out_is = rw t (e ∙ whole (file_bytes es (rows_of l count)));
                     }
 
 -- "any two results that the contract allows coincide"

@@ -1,22 +1,29 @@
 -- A text laid part by part, where it fits. Assumes nothing.
 use mathlib.Core.Path.{◌≡◌, refl, sym, ap, ◌∙◌}
-use mathlib.Core.Bool.{Bool, true, false, not, ◌&&◌, false≢true, true≢false}
+use mathlib.Core.Bool.{Bool, true, false, false≢true}
+use mathlib.Core.Logic.{◌⊎◌, inl, inr}
 use mathlib.Core.List.{List, [], ◌∷◌, ◌++◌, append-nil, append_assoc}
 use Prim.Native.Nat.{ℕ, ◌+◌, ◌-◌, ◌≤◌, ◌<◌}
 use native.Mathlib.Omega.{arith}
-use lib.Dec.{eqb, leb, ltb}
+use lib.Dec.{leb}
 use lib.ListN.{length, take, drop, set, length-append, length-drop, take-append-drop}
 use lib.Seq.{slice, paste, length-slice, take_at, take_all, take-take, length-take-le}
-use borrow.Author.Tests.{le-leb, lt-leb, leb-true, leb-false, eqb-true, eqb-false, eq-eqb, ne_eqb, ltb-false}
+use borrow.Author.Tests.{le-leb, lt-leb, leb-true, leb-false}
+use Rattle.std.specs.Prelude.{Option, Some, None, IfSome}
+use Rattle.std.specs.Int.{from_bool}
 use Rattle.field.specs.Numbers.{written}
 use Rattle.field.proofs.Writing.{length-written, written_on, written_one}
 use Rattle.utf8.specs.Characters.{char_bytes}
 use Rattle.utf8.proofs.Seeing.{slice_take}
-use Rattle.ntline.specs.Escapes.{part}
+use Rattle.nttext.specs.declared.texts.Written.{Written}
 use Rattle.nttext.specs.declared.texts.Front.{Front}
-use Rattle.nttext.specs.Standing.{LaidIn}
-use Rattle.nttext.specs.Inner.{slashed, unit_of, span_text, Lays, FrontLaid}
+use Rattle.nttext.specs.Standing.{LaidIn, LaidTo}
+use Rattle.nttext.specs.Inner.{slashed, unit_of, span_text, Lays, FrontLaid, FrontTo}
 use Rattle.nttext.proofs.Runs.{lays-then, laid_end}
+
+pub marks-few : (slash : Bool) → from_bool slash ≤ 1
+marks-few true = omega arith
+marks-few false = omega arith
 
 module _ (out : List ℕ) where
   take-written : (at : ℕ) (text : List ℕ) → at ≤ length out → take at (written out at text) ≡ take at out
@@ -97,59 +104,63 @@ module _ (out : List ℕ) where
         }
 
   -- a character, with a backslash before it or not
-  module _ (at slash value size : ℕ) (some : value ≡ part → ⊥) (low : slash ≤ 1) (is-size : size ≡ length (char_bytes value)) (begins : at ≤ length out) where
-    unit_is : unit_of slash value ≡ slashed slash value
-    unit_is = rw (ne_eqb value part some) refl
+  module _ (at : ℕ) (w : Written) (marks size : ℕ) (is-marks : marks ≡ from_bool w.slash) (is-size : size ≡ length (char_bytes w.value))
+      (begins : at ≤ length out) where
+    unit_is : (x : Bool) → w.slash ≡ x → unit_of (Some w) ≡ slashed x w.value
+    unit_is x e = ap (λ (t : Bool). slashed t w.value) e
 
-    unit_slashed : slash ≡ 1 → unit_of slash value ≡ 0x5C ∷ char_bytes value
-    unit_slashed e = unit_is ∙ rw (eq-eqb slash 1 e) refl
+    marks_are : (x : Bool) → w.slash ≡ x → marks ≡ from_bool x
+    marks_are x e = is-marks ∙ ap from_bool e
 
-    unit_bare : (slash ≡ 1 → ⊥) → unit_of slash value ≡ char_bytes value
-    unit_bare e = unit_is ∙ rw (ne_eqb slash 1 e) refl
-
-    unit_size : length (unit_of slash value) ≡ slash + size
-    unit_size = which (eqb slash 1) refl
+    unit_size : length (unit_of (Some w)) ≡ marks + size
+    unit_size = which w.slash refl
       where
-        which : (x : Bool) → eqb slash 1 ≡ x → length (unit_of slash value) ≡ slash + size
-        which true e = let one = eqb-true slash 1 e in ap length (unit_slashed one) ∙ omega (arith, is-size)
-        which false e = let no : slash ≡ 1 → ⊥ = eqb-false slash 1 e in ap length (unit_bare no) ∙ omega (arith, is-size, no)
+        which : (x : Bool) → w.slash ≡ x → length (unit_of (Some w)) ≡ marks + size
+        which true e = ap length (unit_is true e) ∙ (let mark : marks ≡ 1 = marks_are true e in omega (arith, is-size))
+        which false e = ap length (unit_is false e) ∙ (let mark : marks ≡ 0 = marks_are false e in omega (arith, is-size))
 
-    pub unit_misfits : (to : ℕ) → length out - at < slash + size → LaidIn (unit_of slash value) out out at false to
-    unit_misfits to h = lays-not (unit_of slash value) at to (omega (arith, unit_size))
-
-    module _ (fits : slash + size ≤ length out - at) (after : List ℕ) where
-      pub lays-slashed : slash ≡ 1 → after ≡ take (at + 1) (set out at 0x5C) ++ char_bytes value ++ drop ((at + 1) + length (char_bytes value)) (set out at 0x5C) →
-          LaidIn (unit_of slash value) out after at true (at + (slash + size))
+    module _ (fits : marks + size ≤ length out - at) (after : List ℕ) where
+      lays-slashed : w.slash ≡ true → after ≡ take (at + 1) (set out at 0x5C) ++ char_bytes w.value ++ drop ((at + 1) + length (char_bytes w.value)) (set out at 0x5C) →
+          LaidIn (unit_of (Some w)) out after at true (at + (marks + size))
       unfolding written
       lays-slashed one e =
+          let mark : marks ≡ 1 = marks_are true one in
           let first : set out at 0x5C ≡ written out at (0x5C ∷ []) = written_one out at 0x5C (omega arith) in
-          let both : after ≡ written out at (0x5C ∷ char_bytes value)
-          = e ∙ ap (λ (l : List ℕ). written l (at + 1) (char_bytes value)) first
-          ∙ written_on out at (0x5C ∷ []) (omega arith) (char_bytes value) (at + 1) refl (omega (arith, is-size)) in
-          lays_all (unit_of slash value) after at (at + (slash + size)) (omega (arith, unit_size)) (omega (arith, unit_size))
-          (both ∙ ap (written out at) (sym (unit_slashed one)))
+          let both : after ≡ written out at (0x5C ∷ char_bytes w.value)
+          = e ∙ ap (λ (l : List ℕ). written l (at + 1) (char_bytes w.value)) first
+          ∙ written_on out at (0x5C ∷ []) (omega arith) (char_bytes w.value) (at + 1) refl (omega (arith, is-size)) in
+          lays_all (unit_of (Some w)) after at (at + (marks + size)) (omega (arith, unit_size)) (omega (arith, unit_size))
+          (both ∙ ap (written out at) (sym (unit_is true one)))
 
-      pub lays-bare : (slash ≡ 1 → ⊥) → after ≡ take at out ++ char_bytes value ++ drop (at + length (char_bytes value)) out →
-          LaidIn (unit_of slash value) out after at true (at + (slash + size))
+      lays-bare : w.slash ≡ false → after ≡ take at out ++ char_bytes w.value ++ drop (at + length (char_bytes w.value)) out →
+          LaidIn (unit_of (Some w)) out after at true (at + (marks + size))
       unfolding written
       lays-bare bare e =
-          lays_all (unit_of slash value) after at (at + (slash + size)) (omega (arith, unit_size)) (omega (arith, unit_size))
-          (e ∙ ap (written out at) (sym (unit_bare bare)))
+          lays_all (unit_of (Some w)) after at (at + (marks + size)) (omega (arith, unit_size)) (omega (arith, unit_size))
+          (e ∙ ap (written out at) (sym (unit_is false bare)))
 
-  pub lays-part : (at slash value : ℕ) → value ≡ part → at ≤ length out → LaidIn (unit_of slash value) out out at true at
-  lays-part at slash value e h = rw (eq-eqb value part e) (lays-none at h)
+      -- a backslash first, or nothing
+      pub lays-char : (mid : List ℕ) → ((w.slash ≡ true) × (mid ≡ set out at 0x5C)) ⊎ ((w.slash ≡ false) × (mid ≡ out)) →
+          after ≡ take (at + marks) mid ++ char_bytes w.value ++ drop (at + marks + length (char_bytes w.value)) mid →
+          LaidIn (unit_of (Some w)) out after at true (at + (marks + size))
+      lays-char mid (inl (one, first)) e =
+          lays-slashed one
+          (e ∙ rw (first, marks_are true one) refl)
+      lays-char mid (inr (bare, first)) e =
+          let mark : marks ≡ 0 = marks_are false bare in
+          let none : at + marks ≡ at = omega arith in
+          lays-bare bare
+          (e ∙ rw (first, none) refl)
 
--- a text that fits ends inside
-pub laid-low : {text out after : List ℕ} {at to : ℕ} → LaidIn text out after at true to → to ≤ length after
-laid-low {text = text} {out = out} {at = at} l =
-    let room = leb-true (at + length text) (length out) (sym l.fits_is) in
-    let ends = l.to_is refl in
-    let long = l.as_long in
-    omega arith
-
-pub laid-inside : {text out after : List ℕ} {at to : ℕ} (fits : Bool) → LaidIn text out after at fits to → fits ≡ true → to ≤ length after
-laid-inside true l e = laid-low l
-laid-inside false l e = absurd (false≢true e)
+-- where a text would end that does not fit says nothing
+pub misfits : {text out after : List ℕ} {at n m : ℕ} → LaidIn text out after at false n → LaidIn text out after at false m
+misfits l = record {
+  fits_is = l.fits_is;
+  to_is = λ e. absurd (false≢true e);
+  bytes_are = λ e. absurd (false≢true e);
+  as_long = l.as_long;
+  before_is = l.before_is;
+}
 
 -- ---- bytes as they stand
 
@@ -158,14 +169,8 @@ module _ (b : List ℕ) (from to : ℕ) (rises : from ≤ to) (inside : to ≤ l
   lent-part : take (length b - from) (drop from b) ≡ drop from b
   lent-part = take_all (length b - from) (drop from b) (let d = length-drop from b in omega arith)
 
-  pub run_long : to - from ≤ length (take (length b - from) (drop from b))
-  run_long = rw lent-part (let d = length-drop from b in omega arith)
-
   run_size : length (slice from to b) ≡ to - from
   run_size = length-slice from to b inside
-
-  pub run_misfits : (out : List ℕ) (at n : ℕ) → at ≤ length out → length out - at < to - from → LaidIn (slice from to b) out out at false n
-  run_misfits out at n h fits = lays-not out (slice from to b) at n (omega (arith, run_size))
 
   pub run_laid : (out after : List ℕ) (at : ℕ) → at ≤ length out → to - from ≤ length out - at → after ≡ paste out at (take (length b - from) (drop from b)) (to - from) →
       LaidIn (slice from to b) out after at true (at + (to - from))
@@ -178,43 +183,39 @@ module _ (b : List ℕ) (from to : ℕ) (rises : from ≤ to) (inside : to ≤ l
 -- ---- one part behind another
 
 module _ (b : List ℕ) (from to : ℕ) (quoted : Bool) (out : List ℕ) (at : ℕ) where
-  pub front-on : (u mid after : List ℕ) (i last : ℕ) (fits : Bool) (r : Front) → Lays b from to quoted u i → LaidIn u out mid at fits last → fits ≡ true →
-      FrontLaid b i to quoted mid after last r → FrontLaid b from to quoted out after at r
-  front-on u mid after i last false r x l e f = absurd (false≢true e)
-  front-on u mid after i last true r x l e f =
-      record { text = u ++ f.text; lays = lays-then x f.lays; lies = lays-both out u f.text mid after at last r.to r.fits l f.lies }
+  pub front-on : (u mid after : List ℕ) (i last : ℕ) (r : Option Front) → Lays b from to quoted u i → LaidIn u out mid at true last →
+      FrontTo b i to quoted mid after last r → FrontTo b from to quoted out after at r
+  front-on u mid after i last (Some r) x l f =
+      record { text = u ++ f.text; lays = lays-then x f.lays; lies = lays-both out u f.text mid after at last r.to true l f.lies }
+  front-on u mid after i last None x l (n, f) =
+      (n, record { text = u ++ f.text; lays = lays-then x f.lays; lies = misfits (lays-both out u f.text mid after at last last false l f.lies) })
 
-  pub front-none : from ≤ to → at ≤ length out → FrontLaid b from to quoted out out at (record { fits = true; at = from; to = at })
+  -- a run reaches no less far
+  pub front-later : (n mid last : ℕ) (out' after : List ℕ) (r : Option Front) → n < mid → FrontTo b mid to quoted out' after last r → IfSome r (λ f. n < f.at)
+  front-later n mid last out' after (Some r) h f = omega (arith, f.lays.later)
+  front-later n mid last out' after None h f = tt
+
+  pub front-stops : (u after : List ℕ) (i : ℕ) → Lays b from to quoted u i → LaidIn u out after at false at → FrontTo b from to quoted out after at None
+  front-stops u after i x l = (i, record { text = u; lays = x; lies = l })
+
+  pub front-none : from ≤ to → at ≤ length out → FrontLaid b from to quoted out out at true from at
   front-none h l = record {
     text = [];
     lays = record { later = omega arith; within = h; lays = refl; goes = λ g. g };
     lies = lays-none out at l;
   }
 
-  pub span-stops : (after : List ℕ) (r : Front) → FrontLaid b from to quoted out after at r → not r.fits ≡ true → LaidIn (span_text b from to quoted) out after at false r.to
-  span-stops after r f e = rw f.lays.lays (go r.fits f.lies e)
-    where
-      go : (fits : Bool) → LaidIn f.text out after at fits r.to → not fits ≡ true → LaidIn (f.text ++ span_text b r.at to quoted) out after at false r.to
-      go true l e = absurd (false≢true e)
-      go false l e = lays-first out f.text (span_text b r.at to quoted) after after at r.to r.to l
+  pub span-stops : (after : List ℕ) → FrontTo b from to quoted out after at None → LaidTo (span_text b from to quoted) out after at None
+  span-stops after (n, f) = rw f.lays.lays (lays-first out f.text (span_text b n to quoted) after after at at at f.lies)
 
-  pub span-on : (mid after : List ℕ) (last : ℕ) (fits : Bool) (r : Front) → FrontLaid b from to quoted out mid at r → not r.fits ≡ false →
-      LaidIn (span_text b r.at to quoted) mid after r.to fits last → LaidIn (span_text b from to quoted) out after at fits last
-  span-on mid after last fits r f e m = rw f.lays.lays (go r.fits f.lies e)
-    where
-      go : (some : Bool) → LaidIn f.text out mid at some r.to → not some ≡ false → LaidIn (f.text ++ span_text b r.at to quoted) out after at fits last
-      go true l e = lays-both out f.text (span_text b r.at to quoted) mid after at r.to last fits l m
-      go false l e = absurd (true≢false e)
+  pub span-on : (mid after : List ℕ) (i last : ℕ) (r : Option ℕ) → FrontLaid b from to quoted out mid at true i last →
+      LaidTo (span_text b i to quoted) mid after last r → LaidTo (span_text b from to quoted) out after at r
+  span-on mid after i last (Some n) f m = rw f.lays.lays (lays-both out f.text (span_text b i to quoted) mid after at last n true f.lies m)
+  span-on mid after i last None f m =
+      rw f.lays.lays (misfits (lays-both out f.text (span_text b i to quoted) mid after at last last false f.lies m))
 
-  all_laid : (fits : Bool) (text rest after : List ℕ) (last : ℕ) → LaidIn text out after at fits last → (fits ≡ true → rest ≡ []) → LaidIn (text ++ rest) out after at fits last
-  all_laid false text rest after last l e = lays-first out text rest after after at last last l
-  all_laid true text rest after last l e = rw (e refl, append-nil text) l
-
-  pub front_ends : (after : List ℕ) (r : Front) → FrontLaid b from to quoted out after at r → (r.fits && ltb r.at to) ≡ false →
-      LaidIn (span_text b from to quoted) out after at r.fits r.to
-  front_ends after r f e =
-      rw f.lays.lays
-      (all_laid r.fits f.text (span_text b r.at to quoted) after r.to f.lies
-      (λ t.
-      let past : ltb r.at to ≡ false = ap (λ (x : Bool). x && ltb r.at to) (sym t) ∙ e in
-      laid_end b quoted 0 0 r.at to (omega (arith, f.lays.within, ltb-false r.at to past))))
+  pub front_ends : (after : List ℕ) (i last : ℕ) → FrontLaid b from to quoted out after at true i last → to ≤ i →
+      LaidIn (span_text b from to quoted) out after at true last
+  front_ends after i last f h =
+      let none = laid_end b quoted 0 0 i to (omega (arith, f.lays.within)) in
+      rw f.lays.lays (rw (none, append-nil f.text) f.lies)

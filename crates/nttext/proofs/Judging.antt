@@ -12,6 +12,8 @@ use Rattle.utf8.specs.Texts.{seen, AllCharacters}
 use Rattle.names.specs.Entering.{same_text_lem}
 use Rattle.ntwrite.specs.Written.{marked}
 use Rattle.ntline.specs.declared.lines.Span.{Span}
+use Rattle.ntline.specs.declared.lines.Sort.{Sort}
+use Rattle.ntline.specs.Kinds.{sort_number}
 use Rattle.ntline.specs.Lines.{is_nil, Source, source_of, meant_by, SpanOf}
 use Rattle.ntline.proofs.Spans.{nil_is_end, seen_none}
 use Rattle.ntline.proofs.Encoded.{all_append}
@@ -22,6 +24,15 @@ use Rattle.nttext.proofs.Apart.{Apart, apart}
 literal-bare : (text : List ℕ) → marked 2 text ≡ text
 unfolding marked
 literal-bare text = refl
+
+literal-two : (t : Sort) → sort_number t ≡ 2 → t ≡ Sort.Literal
+literal-two Sort.Name e = absurd (omega arith)
+literal-two Sort.Blank e = absurd (omega arith)
+literal-two Sort.Literal e = refl
+
+pub no-term : (text : List ℕ) (from to : ℕ) → (source_of (seen text from to)).sort ≡ 3 → false ≡ is_legal_text 2 (slice from to text)
+unfolding is_legal_text
+no-term text from to e = sym (rw (literal-bare (slice from to text), e) refl)
 
 module _ (text : List ℕ) (from to : ℕ) (low : from ≤ to) (high : to ≤ length text) (t : Span) (sp : SpanOf text to t (source_of (seen text from to))) where
   abbrev s : Source
@@ -34,12 +45,12 @@ module _ (text : List ℕ) (from to : ℕ) (low : from ≤ to) (high : to ≤ le
   tail-nil : is_nil s.tail ≡ eqb t.tail to
   tail-nil = ap is_nil (sym sp.tail_is) ∙ nil_is_end text t.tail to sp.within high
 
-  pub other-sort : (t.sort ≡ 2 → ⊥) → false ≡ is_legal_text 2 (slice from to text)
-  other-sort e = sym (judged ∙ rw (ne_eqb s.sort 2 (λ (x : s.sort ≡ 2). e (sp.sort_is ∙ x))) refl)
+  pub other-sort : (t.sort ≡ Sort.Literal → ⊥) → false ≡ is_legal_text 2 (slice from to text)
+  other-sort e = sym (judged ∙ rw (ne_eqb s.sort 2 (λ (x : s.sort ≡ 2). e (literal-two t.sort (sp.sort_is ∙ x)))) refl)
 
-  module _ (two : t.sort ≡ 2) where
+  module _ (literal : t.sort ≡ Sort.Literal) where
     sort-two : s.sort ≡ 2
-    sort-two = sym sp.sort_is ∙ two
+    sort-two = sym sp.sort_is ∙ ap sort_number literal
 
     pub more-behind : (t.tail ≡ to → ⊥) → false ≡ is_legal_text 2 (slice from to text)
     more-behind e = sym (judged ∙ rw (eq-eqb s.sort 2 sort-two, tail-nil, ne_eqb t.tail to e) refl)

@@ -1,6 +1,6 @@
 -- A text compared part by part with bytes where they stand. Assumes nothing.
 use mathlib.Core.Path.{◌≡◌, refl, sym, ap, ◌∙◌}
-use mathlib.Core.Bool.{Bool, true, false, not, ◌&&◌, false≢true, true≢false}
+use mathlib.Core.Bool.{Bool, true, false, ◌&&◌, false≢true, true≢false}
 use mathlib.Core.List.{List, [], ◌∷◌, ◌++◌, append-nil, append_assoc}
 use Prim.Native.Nat.{ℕ, suc, ◌+◌, ◌-◌, ◌≤◌, ◌<◌}
 use native.Mathlib.Numerals.{add-one}
@@ -9,6 +9,7 @@ use lib.Dec.{eqb}
 use lib.ListN.{length, get_or, take, drop, length-append}
 use lib.Seq.{slice, slice_empty, slice-cons, length-slice, get_or-take, get_or-drop, ext_get_or}
 use borrow.Author.Tests.{eqb-true, eqb-false, eq-eqb, ne_eqb}
+use Rattle.std.specs.Prelude.{Option, Some, None}
 use Rattle.utf8.specs.Characters.{is_character_lem, char_bytes}
 use Rattle.utf8.specs.Texts.{chars_of, seen, SeenAt}
 use Rattle.utf8.proofs.Agree.{complete_front, size_few}
@@ -17,10 +18,9 @@ use Rattle.utf8.proofs.Seeing.{slice_join}
 use Rattle.names.specs.Entering.{same_text_lem}
 use Rattle.names.proofs.Same.{is_same, not_same}
 use Rattle.names.specs.Finding.{SameIn}
-use Rattle.ntline.specs.Escapes.{part}
 use Rattle.ntline.specs.Runs.{plain_byte, Run}
 use Rattle.nttext.specs.declared.texts.Cursor.{Cursor}
-use Rattle.nttext.specs.Inner.{unit_of, span_text, MatchedIn, Lays, UnitAt, SameRun}
+use Rattle.nttext.specs.Inner.{unit_of, span_text, MatchedIn, MatchedTo, Lays, UnitAt, SameRun}
 use Rattle.nttext.proofs.Runs.{run_lays, lays-then, laid_end}
 
 same-front : (u a b : List ℕ) → same_text_lem (u ++ a) (u ++ b) ≡ same_text_lem a b
@@ -36,15 +36,6 @@ shorter_other : (a b : List ℕ) → length b < length a → same_text_lem a b �
 shorter_other a b h = not_same a b (λ (e : a ≡ b). let l = ap length e in omega arith)
 
 module _ (out : List ℕ) (at end : ℕ) where
-  pub matches_none : at ≤ end → MatchedIn [] out at end true at
-  matches_none h =
-      record {
-        rising = λ _. omega arith;
-        within = λ _. h;
-        there = λ _. slice_empty at out;
-        other = λ e. absurd (true≢false e);
-      }
-
   pub differs_here : (text : List ℕ) (to : ℕ) (same : Bool) → same ≡ false → ((more : List ℕ) → same_text_lem (text ++ more) (slice at end out) ≡ false) →
       MatchedIn text out at end same to
   differs_here text to same is o =
@@ -54,6 +45,10 @@ module _ (out : List ℕ) (at end : ℕ) where
         there = λ e. absurd (false≢true (sym is ∙ e));
         other = λ _. o;
       }
+
+  -- where it would end that does not stand there says nothing
+  pub unmatched : {text : List ℕ} {n m : ℕ} → MatchedIn text out at end false n → MatchedIn text out at end false m
+  unmatched {text = text} {m = m} x = differs_here text m false refl (x.other refl)
 
   -- one text behind another
   pub matches_both : (u v : List ℕ) (mid to : ℕ) (same : Bool) → MatchedIn u out at end true mid → MatchedIn v out mid end same to →
@@ -116,6 +111,13 @@ module _ (out : List ℕ) (at end : ℕ) where
             not_same (char_bytes value ++ more) (slice at end out)
             (λ (f : char_bytes value ++ more ≡ slice at end out). let g = front-is more f in let h : v ≡ value = cc in no h))
 
+  module _ (value v n : ℕ) (good : is_character_lem value ≡ true) (s : SeenAt out at end v n) where
+    pub char-there : v ≡ value → MatchedIn (char_bytes value) out at end true n
+    char-there e = rw (eq-eqb v value e) at (char-seen value v n good s)
+
+    pub char-other : (v ≡ value → ⊥) → MatchedIn (char_bytes value) out at end false at
+    char-other e = unmatched (rw (ne_eqb v value e) at (char-seen value v n good s))
+
   -- ---- a backslash before it
 
   pub slash_missing : (value to : ℕ) (same : Bool) → same ≡ false → at ≡ end → MatchedIn (0x5C ∷ char_bytes value) out at end same to
@@ -142,21 +144,10 @@ module _ (out : List ℕ) (at end : ℕ) where
           other = λ f. absurd (true≢false f);
         }
 
-    pub slash_first : (value to : ℕ) (same : Bool) → get_or out at 0 ≡ 0x5C → MatchedIn (char_bytes value) out (at + 1) end same to →
-        MatchedIn (0x5C ∷ char_bytes value) out at end same to
-    slash_first value to same e m = matches_both (0x5C ∷ []) (char_bytes value) (at + 1) to same (slash_there e) m
-
-  -- ---- what a cursor has
-
-  pub matches_part : (slash value : ℕ) → value ≡ part → at ≤ end → MatchedIn (unit_of slash value) out at end true at
-  matches_part slash value e h = rw (eq-eqb value part e) (matches_none h)
-
-  module _ (slash value : ℕ) (some : value ≡ part → ⊥) (same : Bool) (to : ℕ) where
-    pub matches_slashed : slash ≡ 1 → MatchedIn (0x5C ∷ char_bytes value) out at end same to → MatchedIn (unit_of slash value) out at end same to
-    matches_slashed one m = rw (ne_eqb value part some, eq-eqb slash 1 one) m
-
-    pub matches_bare : (slash ≡ 1 → ⊥) → MatchedIn (char_bytes value) out at end same to → MatchedIn (unit_of slash value) out at end same to
-    matches_bare bare m = rw (ne_eqb value part some, ne_eqb slash 1 bare) m
+    pub slash_first : (value : ℕ) (r : Option ℕ) → get_or out at 0 ≡ 0x5C → MatchedTo (char_bytes value) out (at + 1) end r →
+        MatchedTo (0x5C ∷ char_bytes value) out at end r
+    slash_first value (Some to) e m = matches_both (0x5C ∷ []) (char_bytes value) (at + 1) to true (slash_there e) m
+    slash_first value None e m = unmatched (matches_both (0x5C ∷ []) (char_bytes value) (at + 1) (at + 1) false (slash_there e) m)
 
   -- ---- all of it
 
@@ -190,9 +181,9 @@ same-slices b out from at size h l same =
     byte_in at (at + size) k out (omega arith) ∙ sym (same k n) ∙ sym (byte_in from (from + size) k b (omega arith)))
 
 module _ (b : List ℕ) (from to : ℕ) (quoted : Bool) (out : List ℕ) (at end : ℕ) (long : to ≤ length b) (low : at ≤ end) (high : end ≤ length out) where
-  pub same-run : (run most size : ℕ) → Run (plain_byte quoted) b from to run → (most ≤ run - from) × (most ≤ end - at) → size ≤ most → SameIn b from out at size →
+  pub same-run : (run most size : ℕ) → Run (plain_byte quoted) b from to run → most ≤ run - from → most ≤ end - at → size ≤ most → SameIn b from out at size →
       SameRun b from to quoted out at end size
-  same-run run most size r few h same =
+  same-run run most size r few room h same =
       let inside = r.within in
       let later = r.later in
       let fits : from + size ≤ run = omega arith in
@@ -216,16 +207,12 @@ pub record MatchLoop (b : List ℕ) (from to : ℕ) (quoted : Bool) (out : List 
   pub there : MatchedIn text out at end true last
 
 module _ (b : List ℕ) (from to : ℕ) (quoted : Bool) (out : List ℕ) (at end : ℕ) where
-  pub match_start : (size : ℕ) → SameRun b from to quoted out at end size → MatchLoop b from to quoted out at end (from + size) (at + size)
-  match_start size r = record { text = slice from (from + size) b; lays = r.lays; there = r.there }
-
   -- a character, and the run behind it
-  pub match_goes : (i last mid size : ℕ) (k : Cursor) (same : Bool) → MatchLoop b from to quoted out at end i last → UnitAt b i to quoted k →
-      MatchedIn (unit_of k.slash k.value) out last end same mid → not same ≡ false → SameRun b k.at to quoted out mid end size →
+  pub match_goes : (i last mid size : ℕ) (k : Cursor) → MatchLoop b from to quoted out at end i last → UnitAt b i to quoted k →
+      MatchedIn (unit_of k.unit) out last end true mid → SameRun b k.at to quoted out mid end size →
       MatchLoop b from to quoted out at end (k.at + size) (mid + size)
-  match_goes i last mid size k false l u m e r = absurd (true≢false e)
-  match_goes i last mid size k true l u m e r =
-      let unit = unit_of k.slash k.value in
+  match_goes i last mid size k l u m r =
+      let unit = unit_of k.unit in
       let run = slice k.at (k.at + size) b in
       record {
         text = (l.text ++ unit) ++ run;
@@ -233,14 +220,13 @@ module _ (b : List ℕ) (from to : ℕ) (quoted : Bool) (out : List ℕ) (at end
         there = matches_both out at end (l.text ++ unit) run mid (mid + size) true (matches_both out at end l.text unit last mid true l.there m) r.there;
       }
 
-  pub match_stops : (i last mid : ℕ) (k : Cursor) (same : Bool) → MatchLoop b from to quoted out at end i last → UnitAt b i to quoted k →
-      MatchedIn (unit_of k.slash k.value) out last end same mid → not same ≡ true → MatchedIn (span_text b from to quoted) out at end same mid
-  match_stops i last mid k true l u m e = absurd (false≢true e)
-  match_stops i last mid k false l u m e =
-      let unit = unit_of k.slash k.value in
+  pub match_stops : (i last mid : ℕ) (k : Cursor) → MatchLoop b from to quoted out at end i last → UnitAt b i to quoted k →
+      MatchedIn (unit_of k.unit) out last end false mid → MatchedIn (span_text b from to quoted) out at end false at
+  match_stops i last mid k l u m =
+      let unit = unit_of k.unit in
       let rest = span_text b k.at to quoted in
       let whole : span_text b from to quoted ≡ l.text ++ (unit ++ rest) = l.lays.lays ∙ ap (λ (x : List ℕ). l.text ++ x) u.lays.lays in
-      rw whole (matches_both out at end l.text (unit ++ rest) last mid false l.there (matches_first out last end unit rest mid mid m))
+      rw whole (unmatched out at end (matches_both out at end l.text (unit ++ rest) last mid false l.there (matches_first out last end unit rest mid mid m)))
 
   pub match_ends : (i last : ℕ) → MatchLoop b from to quoted out at end i last → to ≤ i → MatchedIn (span_text b from to quoted) out at end true last
   match_ends i last l h =

@@ -16,6 +16,7 @@ use Rattle.names.specs.Entering.{same_text_lem}
 use Rattle.ntline.specs.declared.lines.Span.{Span}
 use Rattle.ntline.specs.Grammar.{Term}
 use Rattle.ntline.specs.Escapes.{resolved}
+use Rattle.ntline.specs.Kinds.{sort_number}
 use Rattle.ntline.specs.Lines.{Source, source_of, meant_by, up_to, inner, SpanOf}
 use Rattle.nttext.specs.declared.texts.Bounds.{Bounds}
 use Rattle.nttext.specs.Texts.{text_of_term}
@@ -130,7 +131,7 @@ module _ (b : List ℕ) (end : ℕ) (high : end ≤ length b) (t : Span) (m : Te
   up-mark = ap (λ (l : List ℕ). up_to l s.tail) a.to_is ∙ up-to a.mark s.tail
 
   -- a name
-  module _ (zero_is : t.sort ≡ 0) where
+  module _ (zero_is : sort_number t.sort ≡ 0) where
     name_sort : s.sort ≡ 0
     name_sort = sym sp.sort_is ∙ zero_is
 
@@ -178,14 +179,14 @@ module _ (b : List ℕ) (end : ℕ) (high : end ≤ length b) (t : Span) (m : Te
     name_laid =
         rw (eq-eqb s.sort 0 name_sort) (ap (λ (l : List ℕ). laid false 0 0 (inner l)) (up-front ∙ name_front) ∙ ap (laid false 0 0) (inner-is 0x3C 0x3E core))
 
-    pub name_text : span_text b (t.from + 1) (t.to - 1) (eqb t.sort 2) ++ span_text b (t.to - 1) (t.to - 1) false ≡ text_of_term m
+    pub name_text : span_text b (t.from + 1) (t.to - 1) (eqb (sort_number t.sort) 2) ++ span_text b (t.to - 1) (t.to - 1) false ≡ text_of_term m
     name_text =
-        let quoted : eqb t.sort 2 ≡ false = ne_eqb t.sort 2 (λ (e : t.sort ≡ 2). omega arith) in
+        let quoted : eqb (sort_number t.sort) 2 ≡ false = ne_eqb (sort_number t.sort) 2 (λ (e : sort_number t.sort ≡ 2). omega arith) in
         rw (quoted, laid_end b false 0 0 (t.to - 1) (t.to - 1) refl)
         (append-nil (span_text b (t.from + 1) (t.to - 1) false) ∙ ap (laid false 0 0) name_seen ∙ sym name_laid ∙ text_is)
 
   -- a blank
-  module _ (one-is : t.sort ≡ 1) where
+  module _ (one-is : sort_number t.sort ≡ 1) where
     blank-sort : s.sort ≡ 1
     blank-sort = sym sp.sort_is ∙ one-is
 
@@ -236,15 +237,15 @@ module _ (b : List ℕ) (end : ℕ) (high : end ≤ length b) (t : Span) (m : Te
         rw (ne_eqb s.sort 0 (λ (e : s.sort ≡ 0). omega (arith, blank-sort)), eq-eqb s.sort 1 blank-sort)
         (ap (λ (l : List ℕ). laid false 0 0 (drop 2 l)) (up-front ∙ blank-front))
 
-    pub blank-text : span_text b (t.from + 2) t.to (eqb t.sort 2) ++ span_text b t.to t.to false ≡ text_of_term m
+    pub blank-text : span_text b (t.from + 2) t.to (eqb (sort_number t.sort) 2) ++ span_text b t.to t.to false ≡ text_of_term m
     blank-text =
-        let quoted : eqb t.sort 2 ≡ false = ne_eqb t.sort 2 (λ (e : t.sort ≡ 2). omega arith) in
+        let quoted : eqb (sort_number t.sort) 2 ≡ false = ne_eqb (sort_number t.sort) 2 (λ (e : sort_number t.sort ≡ 2). omega arith) in
         rw (quoted, laid_end b false 0 0 t.to t.to refl)
         (append-nil (span_text b (t.from + 2) t.to false) ∙ ap (laid false 0 0) blank-seen ∙ sym blank-laid ∙ text_is)
 
   -- a literal
-  module _ (no_name : t.sort ≡ 0 → ⊥) (no-blank : t.sort ≡ 1 → ⊥) where
-    two_is : t.sort ≡ 2
+  module _ (no_name : sort_number t.sort ≡ 0 → ⊥) (no-blank : sort_number t.sort ≡ 1 → ⊥) where
+    two_is : sort_number t.sort ≡ 2
     two_is = omega (arith, sp.sort_is, st.is_term)
 
     literal-sort : s.sort ≡ 2
@@ -264,9 +265,9 @@ module _ (b : List ℕ) (end : ℕ) (high : end ≤ length b) (t : Span) (m : Te
         ) refl
 
     whole-text : (tail : ℕ) → span_text b t.to tail false ≡ tail_bytes a.mark →
-        span_text b t.from t.to (eqb t.sort 2) ++ span_text b t.to tail false ≡ text_of_term m
+        span_text b t.from t.to (eqb (sort_number t.sort) 2) ++ span_text b t.to tail false ≡ text_of_term m
     whole-text tail e =
-        rw (eq-eqb t.sort 2 two_is, e) (ap (λ (l : List ℕ). laid true 0 0 l ++ tail_bytes a.mark) front-seen ∙ sym literal-laid ∙ text_is)
+        rw (eq-eqb (sort_number t.sort) 2 two_is, e) (ap (λ (l : List ℕ). laid true 0 0 l ++ tail_bytes a.mark) front-seen ∙ sym literal-laid ∙ text_is)
 
     tail-test : (x : Bool) → x ≡ same_text_lem (span_text b t.to t.tail false) xsd_mark → tail_bytes a.mark ≡ cond x [] (laid false 0 0 a.mark)
     tail-test x e =
@@ -274,11 +275,11 @@ module _ (b : List ℕ) (end : ℕ) (high : end ≤ length b) (t : Span) (m : Te
         rw same refl
 
     pub plain-text : true ≡ same_text_lem (span_text b t.to t.tail false) xsd_mark →
-        span_text b t.from t.to (eqb t.sort 2) ++ span_text b t.to t.to false ≡ text_of_term m
+        span_text b t.from t.to (eqb (sort_number t.sort) 2) ++ span_text b t.to t.to false ≡ text_of_term m
     plain-text e = whole-text t.to (laid_end b false 0 0 t.to t.to refl ∙ sym (tail-test true e))
 
     pub marked-text : false ≡ same_text_lem (span_text b t.to t.tail false) xsd_mark →
-        span_text b t.from t.to (eqb t.sort 2) ++ span_text b t.to t.tail false ≡ text_of_term m
+        span_text b t.from t.to (eqb (sort_number t.sort) 2) ++ span_text b t.to t.tail false ≡ text_of_term m
     marked-text e = whole-text t.tail (ap (laid false 0 0) mark_seen ∙ sym (tail-test false e))
 
 -- nothing lies between a position and itself

@@ -1,14 +1,14 @@
 -- What a source lays, part by part: runs of plain bytes lay themselves, and so does what stands between them. Assumes nothing.
 use mathlib.Core.Path.{◌≡◌, refl, sym, ap, subst, ◌∙◌}
-use mathlib.Core.Bool.{Bool, true, false, ◌&&◌}
+use mathlib.Core.Bool.{Bool, true, false}
 use mathlib.Core.List.{List, [], ◌∷◌, ◌++◌, append_assoc}
 use Prim.Native.Nat.{ℕ, suc, ◌+◌, ◌≤◌, ◌<◌}
 use native.Mathlib.Numerals.{add-one}
 use native.Mathlib.Omega.{arith}
-use lib.Dec.{eqb, ltb}
+use lib.Dec.{eqb}
 use lib.ListN.{length, get_or}
 use lib.Seq.{slice, slice_empty, slice-cons}
-use borrow.Author.Tests.{ne_eqb, eqb-false, ltb-false}
+use borrow.Author.Tests.{ne_eqb}
 use Rattle.utf8.specs.Texts.{chars_of, seen, AllCharacters}
 use Rattle.utf8.proofs.Agree.{bytes_one}
 use Rattle.utf8.proofs.Judged.{low-character}
@@ -23,7 +23,9 @@ use Rattle.ntline.proofs.Resolving.{raw-resolved}
 use Rattle.ntline.proofs.Passing.{low-seen, walk_to, barred_slash, plain-low}
 use Rattle.nttext.specs.declared.texts.Cursor.{Cursor}
 use Rattle.nttext.specs.Laying.{is_dropped, laid}
-use Rattle.nttext.specs.Inner.{unit_of, cursor_at, Given, Advanced, span_text, Lays, UnitAt}
+use Rattle.std.specs.Prelude.{Some, None}
+use Rattle.nttext.specs.declared.texts.Written.{Written}
+use Rattle.nttext.specs.Inner.{unit_of, IsGood, cursor_at, Given, span_text, Lays, UnitAt}
 
 -- ---- a plain byte
 
@@ -105,71 +107,37 @@ given-end b at to e = rw (seen_end b at to e) tt
 pub record UnitLoop (b : List ℕ) (from to : ℕ) (quoted : Bool) (k : Cursor) : Type 0 where
   pub inside : from ≤ k.at
   pub within : k.at ≤ to
-  pub low : k.slash ≤ 1
-  pub lays : span_text b from to quoted ≡ unit_of k.slash k.value ++ laid quoted k.left k.number (seen b k.at to)
-  pub good : Given 0 0 (seen b from to) → (k.value ≡ part → ⊥) → is_character_lem k.value ≡ true
+  pub lays : span_text b from to quoted ≡ unit_of k.unit ++ laid quoted k.left k.number (seen b k.at to)
+  pub good : Given 0 0 (seen b from to) → IsGood k.unit
   pub goes : Given 0 0 (seen b from to) → Given k.left k.number (seen b k.at to)
-  pub over : (k.value ≡ part → ⊥) → (from < k.at) × (k.left ≡ 0) × (k.number ≡ 0)
+  pub over : (w : Written) → k.unit ≡ Some w → (from < k.at) × (k.left ≡ 0) × (k.number ≡ 0)
 
 module _ (b : List ℕ) (from to : ℕ) (quoted : Bool) where
-  pub unit_start : (k : Cursor) → k ≡ cursor_at from 0 0 0 part → from ≤ to → UnitLoop b from to quoted k
+  pub unit_start : (k : Cursor) → k ≡ cursor_at from 0 0 None → from ≤ to → UnitLoop b from to quoted k
   unit_start k e h =
       rw e
       (record {
         inside = omega arith;
         within = h;
-        low = omega arith;
         lays = refl;
-        good = λ g x. absurd (x refl);
+        good = λ g. tt;
         goes = λ g. g;
-        over = λ x. absurd (x refl);
+        over = λ w x. cc;
       })
 
-  pub unit_goes : (k r : Cursor) → UnitLoop b from to quoted k → k.value ≡ part → Advanced b to quoted k r → UnitLoop b from to quoted r
-  unit_goes k r l e a =
-      let nothing : unit_of k.slash k.value ≡ [] = rw e refl in
+  -- at the end of the source, or at a character
+  pub unit_over : (k : Cursor) → UnitLoop b from to quoted k → from < to → to ≤ k.at → UnitAt b from to quoted k
+  unit_over k l h past =
+      let end : k.at ≡ to = omega (arith, l.within) in
       record {
-        inside = omega (arith, l.inside, a.later);
-        within = a.within;
-        low = a.low;
-        lays = l.lays ∙ ap (λ (t : List ℕ). t ++ laid quoted k.left k.number (seen b k.at to)) nothing ∙ a.lays;
-        good = λ g x. a.good (l.goes g) x;
-        goes = λ g. a.goes (l.goes g);
-        over = λ x. (omega (arith, l.inside, a.later), (a.over x).0, (a.over x).1);
+        passes = omega arith;
+        lays = record {
+          later = l.inside;
+          within = l.within;
+          lays =
+              l.lays
+              ∙ ap (λ (t : List ℕ). unit_of k.unit ++ t) (laid_end b quoted k.left k.number k.at to end ∙ sym (laid_end b quoted 0 0 k.at to end));
+          goes = λ g. given-end b k.at to end;
+        };
+        good = l.good;
       }
-
-  pub unit_ends : (k : Cursor) → UnitLoop b from to quoted k → from < to → (eqb k.value part && ltb k.at to) ≡ false → UnitAt b from to quoted k
-  unit_ends k l h e = which (eqb k.value part) refl e
-    where
-      unit : List ℕ
-      unit = unit_of k.slash k.value
-
-      which : (x : Bool) → eqb k.value part ≡ x → (x && ltb k.at to) ≡ false → UnitAt b from to quoted k
-      which true p q =
-          let end : k.at ≡ to = omega (arith, l.within, ltb-false k.at to q) in
-          record {
-            passes = omega arith;
-            low = l.low;
-            lays = record {
-              later = l.inside;
-              within = l.within;
-              lays =
-                  l.lays
-                  ∙ ap (λ (t : List ℕ). unit ++ t) (laid_end b quoted k.left k.number k.at to end ∙ sym (laid_end b quoted 0 0 k.at to end));
-              goes = λ g. given-end b k.at to end;
-            };
-            good = l.good;
-          }
-      which false p q =
-          let over = l.over (eqb-false k.value part p) in
-          record {
-            passes = over.0;
-            low = l.low;
-            lays = record {
-              later = l.inside;
-              within = l.within;
-              lays = l.lays ∙ rw (over.1, over.2) refl;
-              goes = λ g. rw (over.1, over.2) at (l.goes g);
-            };
-            good = l.good;
-          }

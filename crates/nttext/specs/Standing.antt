@@ -1,5 +1,5 @@
 -- What the parts of the code promise of a term that stands in a line: its text laid, or compared.
-use Rattle.std.specs.Prelude.{◌≡◌, Bool, true, List, ℕ, ◌+◌, ◌≤◌, leb, length, take}
+use Rattle.std.specs.Prelude.{◌≡◌, Option, Some, None, Bool, true, false, List, ℕ, ◌+◌, ◌≤◌, leb, length, take}
 use Rattle.std.proofs.Math.Seq.{slice}
 use Rattle.utf8.specs.Texts.{AllCharacters}
 use Rattle.field.specs.Numbers.{written}
@@ -30,8 +30,17 @@ pub record LaidIn (text out after : List ℕ) (at : ℕ) (fits : Bool) (to : ℕ
   pub as_long : length after ≡ length out
   pub before_is : take at after ≡ take at out
 
+-- where a text ends that is laid, if it fits
+abbrev pub LaidTo : List ℕ → List ℕ → List ℕ → ℕ → Option ℕ → Type 0
+LaidTo text out after at (Some to) = LaidIn text out after at true to
+LaidTo text out after at None = LaidIn text out after at false at
+
 abbrev pub TermLaid : List ℕ → ℕ → Span → List ℕ → List ℕ → ℕ → Bool → ℕ → Type 0
 TermLaid b end t out after at fits to = (m : Term) → Stands b end t m → LaidIn (text_of_term m) out after at fits to
+
+abbrev pub TermLaidTo : List ℕ → ℕ → Span → List ℕ → List ℕ → ℕ → Option ℕ → Type 0
+TermLaidTo b end t out after at (Some to) = TermLaid b end t out after at true to
+TermLaidTo b end t out after at None = TermLaid b end t out after at false at
 
 abbrev pub TermCompared : List ℕ → ℕ → Span → List ℕ → ℕ → ℕ → Bool → Type 0
 TermCompared b end t text from to r = (m : Term) → Stands b end t m → r ≡ same_text_lem (text_of_term m) (slice from to text)

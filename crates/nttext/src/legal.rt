@@ -7,10 +7,10 @@ ghost use Rattle.nttext.specs.Inner.{bare_run};
 
 use crate::texts::is_text_of;
 use ntline::classes::is_label_start;
-use ntline::lexing::{IRI, LABEL, State, kind_of, stepped};
-use ntline::lines::{LITERAL, term as term_at};
+use ntline::lexing::{Kind, State, kind_of, stepped};
+use ntline::lines::{Sort, term as term_at};
 use ntline::runs::{label_run, plain_run, scheme_run};
-use utf8::{see, wide};
+use utf8::see;
 
 // The state behind the bytes from `from` up to `to`; Dead where they have an escape.
 fn state_behind(text: &[u8], from: usize, to: usize, first: State) -> State
@@ -36,10 +36,7 @@ fn plain_name(text: &[u8], from: usize, to: usize) -> bool
     ensures { result ≡ true → is_legal_text 0 (slice from to text.now) ≡ true }
 {
     let behind = scheme_run(text, from, to);
-    if from < behind {
-        return plain_run(text, behind, to, false) == to;
-    }
-    false
+    from < behind && plain_run(text, behind, to, false) == to
 }
 
 fn legal_name(text: &[u8], from: usize, to: usize) -> bool
@@ -50,7 +47,7 @@ fn legal_name(text: &[u8], from: usize, to: usize) -> bool
         return true;
     }
     let inside = state_behind(text, from, to, State::Iri(0, 0, 0));
-    kind_of(stepped(inside, 0x3E)) == IRI
+    kind_of(stepped(inside, 0x3E)) == Some(Kind::Iri)
 }
 
 // Whether the bytes are a label below 0x80 without a dot.
@@ -58,10 +55,7 @@ fn plain_label(text: &[u8], from: usize, to: usize) -> bool
     requires { (from ≤ to) × (to ≤ length text.now) }
     ensures { result ≡ true → is_legal_text 1 (slice from to text.now) ≡ true }
 {
-    if from == to {
-        return false;
-    }
-    if !is_label_start(wide(text[from])) {
+    if from == to || !is_label_start(u32::from(text[from])) {
         return false;
     }
     label_run(text, from, to) == to
@@ -74,18 +68,17 @@ fn legal_blank(text: &[u8], from: usize, to: usize) -> bool
     if plain_label(text, from, to) {
         return true;
     }
-    kind_of(state_behind(text, from, to, State::Colon)) == LABEL
+    kind_of(state_behind(text, from, to, State::Colon)) == Some(Kind::Label)
 }
 
 fn legal_literal(text: &[u8], from: usize, to: usize) -> bool
     requires { (from ≤ to) × (to ≤ length text.now) }
     ensures { result ≡ is_legal_text 2 (slice from to text.now) }
 {
-    let t = term_at(text, from, to);
-    if t.sort != LITERAL {
+    let Some(t) = term_at(text, from, to) else {
         return false;
-    }
-    if t.tail != to {
+    };
+    if t.sort != Sort::Literal || t.tail != to {
         return false;
     }
     is_text_of(text, to, t, text, from, to)
@@ -96,14 +89,10 @@ pub fn legal(sort: u16, text: &[u8], from: usize, to: usize) -> bool
     requires { (from ≤ to) × (to ≤ length text.now) }
     ensures { result ≡ is_legal_text sort (slice from to text.now) }
 {
-    if sort == term::NAME {
-        return legal_name(text, from, to);
+    match sort {
+        term::NAME => legal_name(text, from, to),
+        term::BLANK => legal_blank(text, from, to),
+        term::LITERAL => legal_literal(text, from, to),
+        _ => false,
     }
-    if sort == term::BLANK {
-        return legal_blank(text, from, to);
-    }
-    if sort == term::LITERAL {
-        return legal_literal(text, from, to);
-    }
-    false
 }

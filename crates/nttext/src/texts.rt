@@ -1,79 +1,60 @@
 // The text of a term that stands in a file, laid down, or compared with bytes, without an intermediate copy.
-ghost use Rattle.std.specs.Prelude.{◌≡◌, true, false, ◌∷◌, ◌≤◌, ◌<◌, length};
+ghost use Rattle.std.specs.Prelude.{◌≡◌, true, false, ◌∷◌, ◌≤◌, ◌<◌, length, IfSome};
+ghost use Rattle.nttext.specs.declared.texts.Front.{Front};
 ghost use Rattle.std.proofs.Math.Seq.{slice};
 ghost use Rattle.utf8.specs.Characters.{is_character_lem, char_bytes};
 ghost use Rattle.names.specs.Entering.{same_text_lem};
-ghost use Rattle.ntline.specs.Escapes.{part};
 ghost use Rattle.nttext.specs.Laying.{is_dropped, xsd_mark};
-ghost use Rattle.nttext.specs.Standing.{StandsThere, LaidIn, TermLaid, TermCompared};
-ghost use Rattle.nttext.specs.Inner.{cursor_at, unit_of, Canonical, Advanced, Lies, span_text, MatchedIn, UnitAt, FrontLaid, SameRun, PartsOf};
+ghost use Rattle.nttext.specs.Standing.{StandsThere, LaidTo, TermLaidTo, TermCompared};
+ghost use Rattle.nttext.specs.Inner.{cursor_at, unit_of, IsGood, Canonical, Advanced, Lies, span_text, MatchedTo, UnitAt, FrontTo, SameRun, PartsOf};
 
 use names::texts::put;
 use ntline::classes::is_white;
-use ntline::escapes::{PART, choose, feed};
-use ntline::lines::{BLANK, LITERAL, NAME, Span};
+use ntline::escapes::{PART, feed};
+use ntline::lines::{Sort, Span};
 use ntline::runs::plain_run;
 use utf8::encode::{put_char, size_of};
 use utf8::see;
 
 // A character of a text, with a backslash before it or not.
-#[derive(Drop)]
+#[derive(Clone, Copy)]
 pub struct Written {
-    pub slash: usize,
+    pub slash: bool,
     pub value: u32,
 }
 
 // What a literal's text has for a character that an escape gave.
+#[tactic(auto, unfolding(crate::specs::Texts::canonical, utf8::specs::Characters::char_bytes, utf8::specs::Characters::one_octet, utf8::specs::Characters::is_character_lem))]
 fn canonical(c: u32) -> Written
-    ensures { Canonical c result.slash result.value }
+    ensures { Canonical c result }
 {
-    if c == 0x22 {
-        return Written {
-            slash: 1,
-            value: 0x22,
-        };
-    }
-    if c == 0x5C {
-        return Written {
-            slash: 1,
-            value: 0x5C,
-        };
-    }
-    if c == 0xA {
-        return Written {
-            slash: 1,
-            value: 0x6E,
-        };
-    }
-    if c == 0xD {
-        return Written {
-            slash: 1,
-            value: 0x72,
-        };
-    }
-    Written { slash: 0, value: c }
+    let (slash, value) = match c {
+        0x22 | 0x5C => (true, c),
+        0xA => (true, 0x6E),
+        0xD => (true, 0x72),
+        _ => (false, c),
+    };
+    Written { slash, value }
 }
 
-// Where a span's next character stands in a text: the position in the source, its escape, and the character (PART: none yet).
-#[derive(Drop)]
+// Where a span's next character stands in a text: the position in the source, its escape, and the character, if there is one yet.
+#[derive(Clone, Copy)]
 pub struct Cursor {
     pub at: usize,
     pub left: u32,
     pub number: u32,
-    pub slash: usize,
-    pub value: u32,
+    pub unit: Option<Written>,
 }
 
 // A cursor behind a character, with no escape begun.
-fn behind(at: usize, slash: usize, value: u32) -> Cursor
-    ensures { result ≡ cursor_at at 0 0 slash value }
+fn behind(at: usize, unit: Option<Written>) -> Cursor
+    ensures { result ≡ cursor_at at 0 0 unit }
 {
     Cursor {
         at,
         left: 0,
         number: 0,
-        slash,
-        value,
+        unit,
     }
 }
 
@@ -81,295 +62,202 @@ fn behind(at: usize, slash: usize, value: u32) -> Cursor
 fn is_dropped(quoted: bool, c: u32) -> bool
     ensures { result ≡ is_dropped quoted c }
 {
-    if quoted {
-        return false;
-    }
-    is_white(c)
+    !quoted && is_white(c)
+}
+
+// A source up to a position, between quotes or not.
+#[derive(Clone, Copy)]
+struct Source<'a> {
+    b: &'a [u8],
+    to: usize,
+    quoted: bool,
 }
 
 // One character of the source more.
-fn advance(b: &[u8], end: usize, quoted: bool, k: Cursor) -> Cursor
-    requires { (k.at < end) × (end ≤ length b.now) }
-    ensures { Advanced b.now end quoted k result }
+fn advance(s: Source, k: Cursor) -> Cursor
+    requires { (k.at < s.to) × (s.to ≤ length s.b.now) }
+    ensures { Advanced s.entry.b.now s.entry.to s.entry.quoted k result }
 {
-    let at = k.at;
-    let c = see(b, at, end);
+    let c = see(s.b, k.at, s.to);
     let f = feed(k.left, k.number, c.value);
     let out = f.out;
     if out == PART {
         return Cursor {
-            at: c.next,
             left: f.left,
             number: f.value,
-            slash: 0,
-            value: PART,
+            ..behind(c.next, None)
         };
     }
-    if k.left == 0 {
-        return behind(c.next, 0, choose(is_dropped(quoted, out), PART, out));
+    if k.left != 0 {
+        return behind(c.next, Some(canonical(out)));
     }
-    let escaped = canonical(out);
-    behind(c.next, escaped.slash, escaped.value)
+    if is_dropped(s.quoted, out) {
+        return behind(c.next, None);
+    }
+    let raw = Written {
+        slash: false,
+        value: out,
+    };
+    behind(c.next, Some(raw))
 }
 
-// Where the text laid ends, or that it does not fit.
-#[derive(Drop)]
-pub struct Laid {
-    pub fits: bool,
-    pub to: usize,
-}
-
-// A cursor's character laid, if it has one.
-fn lay(out: &mut [u8], at: usize, slash: usize, value: u32) -> Laid
-    requires { (at ≤ length out.old) × (slash ≤ 1) × ((value ≡ part → ⊥) → is_character_lem value ≡ true) }
-    ensures { LaidIn (unit_of slash value) out.old out.new at result.fits result.to }
+// A cursor's character laid, if it has one: where it ends, if it fits.
+fn lay(out: &mut [u8], at: usize, unit: Option<Written>) -> Option<usize>
+    requires { (at ≤ length out.old) × IsGood unit }
+    ensures { LaidTo (unit_of unit) out.old out.new at result }
 {
-    if value == PART {
-        return Laid { fits: true, to: at };
-    }
-    let size = slash + size_of(value);
+    let Some(c) = unit else {
+        return Some(at);
+    };
+    let marks = usize::from(c.slash);
+    let size = marks + size_of(c.value);
     if out.len() - at < size {
-        return Laid {
-            fits: false,
-            to: at,
-        };
+        return None;
     }
-    if slash == 1 {
-        out[at] = 0x5C;
-        put_char(out, at + 1, value);
-        return Laid {
-            fits: true,
-            to: at + size,
-        };
+    if c.slash {
+        out[at] = b'\\';
     }
-    put_char(out, at, value);
-    Laid {
-        fits: true,
-        to: at + size,
-    }
+    put_char(out, at + marks, c.value);
+    Some(at + size)
 }
 
 // The next character of a text, behind what leaves nothing; or the end of its source.
-fn unit(b: &[u8], from: usize, to: usize, quoted: bool) -> Cursor
-    requires { (from < to) × (to ≤ length b.now) }
-    ensures { UnitAt b.now from to quoted result }
+fn unit(s: Source, from: usize) -> Cursor
+    requires { (from < s.to) × (s.to ≤ length s.b.now) }
+    ensures { UnitAt s.entry.b.now from s.entry.to s.entry.quoted result }
 {
-    let mut k = behind(from, 0, PART);
-    while (k.value == PART) & (k.at < to) {
-        k = advance(b, to, quoted, k);
+    let mut k = behind(from, None);
+    while k.unit.is_none() && k.at < s.to {
+        k = advance(s, k);
     }
     k
 }
 
 // Bytes of the source as they stand, laid.
-fn lay_run(b: &[u8], from: usize, to: usize, out: &mut [u8], at: usize) -> Laid
+fn lay_run(b: &[u8], from: usize, to: usize, out: &mut [u8], at: usize) -> Option<usize>
     requires { (from ≤ to) × (to ≤ length b.now) × (at ≤ length out.old) }
-    ensures { LaidIn (slice from to b.now) out.old out.new at result.fits result.to }
+    ensures { LaidTo (slice from to b.now) out.old out.new at result }
 {
     let size = to - from;
     if out.len() - at < size {
-        return Laid {
-            fits: false,
-            to: at,
-        };
+        return None;
     }
     put(out, at, &b[from..], size);
-    Laid {
-        fits: true,
-        to: at + size,
-    }
+    Some(at + size)
 }
 
-// What a text has up to a position of its source, laid: whether it fits, and where it ends.
-#[derive(Drop)]
+// A position of a source, and where what the source has up to there is laid.
+#[derive(Clone, Copy)]
 pub struct Front {
-    pub fits: bool,
     pub at: usize,
     pub to: usize,
 }
 
 // A run of plain bytes, laid.
-fn lay_plain(b: &[u8], from: usize, to: usize, quoted: bool, out: &mut [u8], at: usize) -> Front
-    requires { (from ≤ to) × (to ≤ length b.now) × (at ≤ length out.old) }
-    ensures { FrontLaid b.now from to quoted out.old out.new at result }
+fn lay_plain(s: Source, from: usize, out: &mut [u8], at: usize) -> Option<Front>
+    requires { (from ≤ s.to) × (s.to ≤ length s.b.now) × (at ≤ length out.old) }
+    ensures { FrontTo s.entry.b.now from s.entry.to s.entry.quoted out.old out.new at result }
 {
-    let run = plain_run(b, from, to, quoted);
-    let laid = lay_run(b, from, run, out, at);
-    Front {
-        fits: laid.fits,
-        at: run,
-        to: laid.to,
-    }
+    let run = plain_run(s.b, from, s.to, s.quoted);
+    let last = lay_run(s.b, from, run, out, at)?;
+    Some(Front { at: run, to: last })
 }
 
 // What stands between two runs, and the run behind it.
-fn lay_next(b: &[u8], from: usize, to: usize, quoted: bool, out: &mut [u8], at: usize) -> Front
-    requires { (from < to) × (to ≤ length b.now) × (at ≤ length out.old) × Lies b.now from to }
-    ensures { FrontLaid b.now from to quoted out.old out.new at result × (from < result.at) }
+fn lay_next(s: Source, from: usize, out: &mut [u8], at: usize) -> Option<Front>
+    requires { (from < s.to) × (s.to ≤ length s.b.now) × (at ≤ length out.old) × Lies s.b.now from s.to }
+    ensures { FrontTo s.entry.b.now from s.entry.to s.entry.quoted out.old out.new at result × IfSome result (λ (f : Front). from < f.at) }
 {
-    let k = unit(b, from, to, quoted);
-    let laid = lay(out, at, k.slash, k.value);
-    if !laid.fits {
-        return Front {
-            fits: laid.fits,
-            at: k.at,
-            to: laid.to,
-        };
-    }
-    lay_plain(b, k.at, to, quoted, out, laid.to)
+    let k = unit(s, from);
+    let last = lay(out, at, k.unit)?;
+    lay_plain(s, k.at, out, last)
 }
 
-// The text of the source from `from` up to `to`, laid, a character and a run at a time.
-fn lay_rest(b: &[u8], from: usize, to: usize, quoted: bool, out: &mut [u8], at: usize) -> Laid
-    requires { (to ≤ length b.now) × (at ≤ length out.old) × Lies b.now from to }
-    ensures { LaidIn (span_text b.now from to quoted) out.old out.new at result.fits result.to }
+// The text of a source from `from` on, laid, a character and a run at a time.
+fn lay_rest(s: Source, from: usize, out: &mut [u8], at: usize) -> Option<usize>
+    requires { (s.to ≤ length s.b.now) × (at ≤ length out.old) × Lies s.b.now from s.to }
+    ensures { LaidTo (span_text s.entry.b.now from s.entry.to s.entry.quoted) out.old out.new at result }
 {
-    let mut front = Front {
-        fits: true,
-        at: from,
-        to: at,
-    };
-    while front.fits & (front.at < to) {
-        front = lay_next(b, front.at, to, quoted, out, front.to);
+    let mut front = Front { at: from, to: at };
+    while front.at < s.to {
+        front = lay_next(s, front.at, out, front.to)?;
     }
-    Laid {
-        fits: front.fits,
-        to: front.to,
-    }
+    Some(front.to)
 }
 
-// The text of the source from `from` up to `to`, laid into `out` from `at` on. Most texts are one run.
-fn lay_span(b: &[u8], from: usize, to: usize, quoted: bool, out: &mut [u8], at: usize) -> Laid
-    requires { (to ≤ length b.now) × (at ≤ length out.old) × Lies b.now from to }
-    ensures { LaidIn (span_text b.now from to quoted) out.old out.new at result.fits result.to }
+// The text of a source from `from` on, laid into `out` from `at` on. Most texts are one run.
+fn lay_span(s: Source, from: usize, out: &mut [u8], at: usize) -> Option<usize>
+    requires { (s.to ≤ length s.b.now) × (at ≤ length out.old) × Lies s.b.now from s.to }
+    ensures { LaidTo (span_text s.entry.b.now from s.entry.to s.entry.quoted) out.old out.new at result }
 {
-    let front = lay_plain(b, from, to, quoted, out, at);
-    if !front.fits {
-        return Laid {
-            fits: false,
-            to: front.to,
-        };
-    }
-    lay_rest(b, front.at, to, quoted, out, front.to)
+    let front = lay_plain(s, from, out, at)?;
+    lay_rest(s, front.at, out, front.to)
 }
 
-// Whether a text stands in bytes from a position on, and where it then ends.
-#[derive(Drop)]
-pub struct Matched {
-    pub same: bool,
-    pub to: usize,
-}
-
-fn least(a: usize, b: usize) -> usize
-    ensures { (result ≤ a) × (result ≤ b) }
-{
-    if a < b { a } else { b }
-}
-
-fn differs(at: usize) -> Matched
-    ensures { (result.same ≡ false) × (result.to ≡ at) }
-{
-    Matched {
-        same: false,
-        to: at,
-    }
-}
-
-fn match_char(out: &[u8], at: usize, end: usize, value: u32) -> Matched
+// Whether a character stands in bytes from a position on: where it ends.
+fn match_char(out: &[u8], at: usize, end: usize, value: u32) -> Option<usize>
     requires { (at ≤ end) × (end ≤ length out.now) × (is_character_lem value ≡ true) }
-    ensures { MatchedIn (char_bytes value) out.now at end result.same result.to }
+    ensures { MatchedTo (char_bytes value) out.now at end result }
 {
     if at == end {
-        return differs(at);
+        return None;
     }
     let c = see(out, at, end);
-    Matched {
-        same: c.value == value,
-        to: c.next,
-    }
+    if c.value == value { Some(c.next) } else { None }
 }
 
-fn match_slashed(out: &[u8], at: usize, end: usize, value: u32) -> Matched
+fn match_slashed(out: &[u8], at: usize, end: usize, value: u32) -> Option<usize>
     requires { (at ≤ end) × (end ≤ length out.now) × (is_character_lem value ≡ true) }
-    ensures { MatchedIn (0x5C ∷ char_bytes value) out.now at end result.same result.to }
+    ensures { MatchedTo (0x5C ∷ char_bytes value) out.now at end result }
 {
-    if at == end {
-        return differs(at);
-    }
-    if out[at] != 0x5C {
-        return differs(at);
+    if at == end || out[at] != b'\\' {
+        return None;
     }
     match_char(out, at + 1, end, value)
 }
 
 // A cursor's character compared, if it has one.
-fn matches(out: &[u8], at: usize, end: usize, slash: usize, value: u32) -> Matched
-    requires { (at ≤ end) × (end ≤ length out.now) × ((value ≡ part → ⊥) → is_character_lem value ≡ true) }
-    ensures { MatchedIn (unit_of slash value) out.now at end result.same result.to }
+fn matches(out: &[u8], at: usize, end: usize, unit: Option<Written>) -> Option<usize>
+    requires { (at ≤ end) × (end ≤ length out.now) × IsGood unit }
+    ensures { MatchedTo (unit_of unit) out.now at end result }
 {
-    if value == PART {
-        return Matched { same: true, to: at };
+    match unit {
+        None => Some(at),
+        Some(c) if c.slash => match_slashed(out, at, end, c.value),
+        Some(c) => match_char(out, at, end, c.value),
     }
-    if slash == 1 {
-        return match_slashed(out, at, end, value);
-    }
-    match_char(out, at, end, value)
 }
 
 // How many plain bytes from `from` on stand in `out` from `at` on.
-fn same_run(
-    b: &[u8],
-    from: usize,
-    to: usize,
-    quoted: bool,
-    out: &[u8],
-    at: usize,
-    end: usize,
-) -> usize
-    requires { (from ≤ to) × (to ≤ length b.now) × (at ≤ end) × (end ≤ length out.now) }
-    ensures { SameRun b.now from to quoted out.now at end result }
+fn same_run(s: Source, from: usize, out: &[u8], at: usize, end: usize) -> usize
+    requires { (from ≤ s.to) × (s.to ≤ length s.b.now) × (at ≤ end) × (end ≤ length out.now) }
+    ensures { SameRun s.entry.b.now from s.entry.to s.entry.quoted out.now at end result }
 {
-    let most = least(plain_run(b, from, to, quoted) - from, end - at);
-    let mut k = 0;
-    while k < most {
-        if b[from + k] != out[at + k] {
+    let most = (plain_run(s.b, from, s.to, s.quoted) - from).min(end - at);
+    for k in 0..most {
+        if s.b[from + k] != out[at + k] {
             return k;
         }
-        k += 1;
     }
-    k
+    most
 }
 
-// Whether the text of the source from `from` up to `to` stands in `out` from `at` on, by `end`.
-fn match_span(
-    b: &[u8],
-    from: usize,
-    to: usize,
-    quoted: bool,
-    out: &[u8],
-    at: usize,
-    end: usize,
-) -> Matched
-    requires { (to ≤ length b.now) × (at ≤ end) × (end ≤ length out.now) × Lies b.now from to }
-    ensures { MatchedIn (span_text b.now from to quoted) out.now at end result.same result.to }
+// Whether the text of a source from `from` on stands in `out` from `at` on, by `end`: where it ends.
+fn match_span(s: Source, from: usize, out: &[u8], at: usize, end: usize) -> Option<usize>
+    requires { (s.to ≤ length s.b.now) × (at ≤ end) × (end ≤ length out.now) × Lies s.b.now from s.to }
+    ensures { MatchedTo (span_text s.entry.b.now from s.entry.to s.entry.quoted) out.now at end result }
 {
-    let size = same_run(b, from, to, quoted, out, at, end);
+    let size = same_run(s, from, out, at, end);
     let mut i = from + size;
     let mut last = at + size;
-    while i < to {
-        let k = unit(b, i, to, quoted);
-        let m = matches(out, last, end, k.slash, k.value);
-        if !m.same {
-            return m;
-        }
-        let more = same_run(b, k.at, to, quoted, out, m.to, end);
+    while i < s.to {
+        let k = unit(s, i);
+        let mid = matches(out, last, end, k.unit)?;
+        let more = same_run(s, k.at, out, mid, end);
         i = k.at + more;
-        last = m.to + more;
+        last = mid + more;
     }
-    Matched {
-        same: true,
-        to: last,
-    }
+    Some(last)
 }
 
 // Whether what a literal has behind its string is this mark.
@@ -377,9 +265,13 @@ fn is_mark(b: &[u8], from: usize, to: usize, mark: &[u8]) -> bool
     requires { (to ≤ length b.now) × Lies b.now from to }
     ensures { result ≡ same_text_lem (span_text b.now from to false) mark.now }
 {
+    let source = Source {
+        b,
+        to,
+        quoted: false,
+    };
     let end = mark.len();
-    let m = match_span(b, from, to, false, mark, 0, end);
-    m.same & (m.to == end)
+    match_span(source, from, mark, 0, end) == Some(end)
 }
 
 // A literal's datatype is xsd:string, which its text leaves out.
@@ -402,45 +294,47 @@ fn parts(b: &[u8], end: usize, t: Span) -> Bounds
     requires { (end ≤ length b.now) × StandsThere b.now end t }
     ensures { PartsOf b.now end t result }
 {
-    if t.sort == NAME {
-        return Bounds {
+    match t.sort {
+        Sort::Name => Bounds {
             from: t.from + 1,
             to: t.to - 1,
             tail: t.to - 1,
-        };
-    }
-    if t.sort == BLANK {
-        return Bounds {
+        },
+        Sort::Blank => Bounds {
             from: t.from + 2,
             to: t.to,
             tail: t.to,
-        };
-    }
-    if is_plain(b, t.to, t.tail) {
-        return Bounds {
+        },
+        Sort::Literal => Bounds {
             from: t.from,
             to: t.to,
-            tail: t.to,
-        };
-    }
-    Bounds {
-        from: t.from,
-        to: t.to,
-        tail: t.tail,
+            tail: if is_plain(b, t.to, t.tail) {
+                t.to
+            } else {
+                t.tail
+            },
+        },
     }
 }
 
-// The text of a term, laid into `out` from `at` on.
-pub fn lay_term(b: &[u8], end: usize, t: Span, out: &mut [u8], at: usize) -> Laid
+// The text of a term, laid into `out` from `at` on: where it ends, if it fits.
+pub fn lay_term(b: &[u8], end: usize, t: Span, out: &mut [u8], at: usize) -> Option<usize>
     requires { (end ≤ length b.now) × (at ≤ length out.old) × StandsThere b.now end t }
-    ensures { TermLaid b.now end t out.old out.new at result.fits result.to }
+    ensures { TermLaidTo b.now end t out.old out.new at result }
 {
     let p = parts(b, end, t);
-    let front = lay_span(b, p.from, p.to, t.sort == LITERAL, out, at);
-    if !front.fits {
-        return front;
-    }
-    lay_span(b, p.to, p.tail, false, out, front.to)
+    let front = Source {
+        b,
+        to: p.to,
+        quoted: t.sort == Sort::Literal,
+    };
+    let behind = Source {
+        b,
+        to: p.tail,
+        quoted: false,
+    };
+    let last = lay_span(front, p.from, out, at)?;
+    lay_span(behind, p.to, out, last)
 }
 
 // Whether the text of a term is the bytes of `text` from `from` up to `to`.
@@ -449,10 +343,18 @@ pub fn is_text_of(b: &[u8], end: usize, t: Span, text: &[u8], from: usize, to: u
     ensures { TermCompared b.now end t text.now from to result }
 {
     let p = parts(b, end, t);
-    let front = match_span(b, p.from, p.to, t.sort == LITERAL, text, from, to);
-    if !front.same {
+    let front = Source {
+        b,
+        to: p.to,
+        quoted: t.sort == Sort::Literal,
+    };
+    let behind = Source {
+        b,
+        to: p.tail,
+        quoted: false,
+    };
+    let Some(last) = match_span(front, p.from, text, from, to) else {
         return false;
-    }
-    let rest = match_span(b, p.to, p.tail, false, text, front.to, to);
-    rest.same & (rest.to == to)
+    };
+    match_span(behind, p.to, text, last, to) == Some(to)
 }

@@ -1,23 +1,22 @@
 -- The bytes of a term, piece by piece as they are laid. Assumes nothing.
 use mathlib.Core.Path.{◌≡◌, refl, sym, ap, ◌∙◌}
 use mathlib.Core.List.{List, [], ◌∷◌, ◌++◌}
-use Prim.Native.Nat.{ℕ, zero, suc, ◌+◌, ◌-◌, ◌≤◌, ◌<◌}
+use Prim.Native.Nat.{ℕ, zero, suc, ◌+◌, ◌≤◌, ◌<◌}
 use native.Mathlib.Nat.{add_assoc}
 use native.Mathlib.Omega.{arith}
-use lib.ListN.{length, set, take, drop, length-append, length-drop}
-use lib.Seq.{slice, paste, length-slice, take_all}
+use lib.ListN.{length, set, length-append}
+use lib.Seq.{paste, take_all}
 use borrow.Author.Tests.{lt-ltb, le-ltb}
 use Rattle.field.specs.Numbers.{written}
 use Rattle.field.proofs.Writing.{length-written, written_one, written_both}
 use Rattle.term.specs.Term.{sort_of}
 use Rattle.names.specs.Five.{rdf_schema, rdf_syntax, five_text}
-use Rattle.names.specs.Names.{Entry, NameLanes, entries_of, text_in, text_of}
-use Rattle.names.specs.Finding.{SpanOf}
-use Rattle.ntwrite.specs.Written.{marked, term_bytes, part_bytes, line_bytes, Fit}
+use Rattle.names.specs.Names.{Entry, text_in, text_of}
+use Rattle.ntwrite.specs.Written.{marked, term_bytes, part_bytes, line_bytes}
 
 -- ---- a text
 
-five_small : (n : ℕ) → length (five_text n) ≤ 50
+pub five_small : (n : ℕ) → length (five_text n) ≤ 50
 unfolding five_text rdf_schema rdf_syntax
 five_small zero = omega arith
 five_small (suc zero) = omega arith
@@ -32,44 +31,10 @@ module _ (es : List Entry) (n : ℕ) where
   pub text-listed : 5 ≤ n → text_of es n ≡ text_in es n
   text-listed h = rw (le-ltb n 5 h) refl
 
-  pub size-five : n < 5 → (r : ℕ) → r ≡ length (five_text n) → (r ≡ length (text_of es n)) × (r ≤ 32768)
-  size-five h r e = let s = five_small n in (e ∙ ap length (sym (text-five h)), omega arith)
-
-module _ (l : NameLanes) (names n from to : ℕ) {slots : List ℕ} (fit : Fit l names slots) (s : SpanOf l names n from to) (high : 5 ≤ n) where
-  text_is : slice from to l.text ≡ text_of (entries_of l names) n
-  text_is = s.bytes ∙ sym (text-listed (entries_of l names) n high)
-
-  pub size-listed : (to - from ≡ length (text_of (entries_of l names) n)) × (to - from ≤ 32768)
-  size-listed =
-      let w = s.within in
-      let f = fit.short in
-      (sym (length-slice from to l.text w) ∙ ap length text_is, omega arith)
-
-  drop-take : (f k : ℕ) (x : List ℕ) → f ≤ k → take (k - f) (drop f x) ≡ drop f (take k x)
-  drop-take zero k x h = let e : k - zero ≡ k = omega arith in ap (λ (m : ℕ). take m x) e
-  drop-take (suc f) zero x h = absurd (omega arith)
-  drop-take (suc f) (suc k) [] h = nil (suc k - suc f)
-    where
-      nil : (m : ℕ) → ◌≡◌ {A = List ℕ} (take m []) []
-      nil zero = refl
-      nil (suc m) = refl
-  drop-take (suc f) (suc k) (y ∷ ys) h = let e : suc k - suc f ≡ k - f = omega arith in ap (λ (m : ℕ). take m (drop f ys)) e ∙ drop-take f k ys (omega arith)
-
-  -- the lane from the text on, as it is lent
-  lent-part : take (length l.text - from) (drop from l.text) ≡ drop from l.text
-  lent-part = take_all (length l.text - from) (drop from l.text) (let d = length-drop from l.text in omega arith)
-
-  -- the text's bytes, laid as a part of the lane
-  pub text-laid : (out out' : List ℕ) (at : ℕ) → out' ≡ paste out at (take (length l.text - from) (drop from l.text)) (to - from)
-      → out' ≡ written out at (text_of (entries_of l names) n)
-  unfolding written
-  text-laid out out' at e =
-      let t : take (to - from) (drop from l.text) ≡ text_of (entries_of l names) n = drop-take from to l.text s.rises ∙ text_is in
-      let k : to - from ≡ length (text_of (entries_of l names) n) = size-listed.0 in
-      e ∙ ap (λ (p : List ℕ). paste out at p (to - from)) lent-part ∙ rw (t, k) refl
-
-  pub part-long : to - from ≤ length (take (length l.text - from) (drop from l.text))
-  part-long = rw lent-part (let w = s.within in let d = length-drop from l.text in omega arith)
+-- a text's bytes, laid whole
+pub text-laid : (text out out' : List ℕ) (at : ℕ) → out' ≡ paste out at text (length text) → out' ≡ written out at text
+unfolding written
+text-laid text out out' at e = e ∙ rw (take_all (length text) text (omega arith)) refl
 
 -- ---- a term
 
@@ -144,14 +109,6 @@ module _ (es : List Entry) (s p o : ℕ) where
       let a = length-append (part_bytes es s ++ part_bytes es p ++ part_bytes es o) (46 ∷ 10 ∷ []) in
       let b = length-append (part_bytes es s ++ part_bytes es p) (part_bytes es o) in
       let c = length-append (part_bytes es s) (part_bytes es p) in
-      omega arith
-
-  pub line-size : (x y z : ℕ) → x ≡ length (term_bytes es s) → y ≡ length (term_bytes es p) → z ≡ length (term_bytes es o) → x + y + z + 6 ≡ length (line_bytes es s p o) + 1
-  line-size x y z ex ey ez =
-      let l = line-long in
-      let a = length-append (term_bytes es s) (32 ∷ []) in
-      let b = length-append (term_bytes es p) (32 ∷ []) in
-      let c = length-append (term_bytes es o) (32 ∷ []) in
       omega arith
 
   module _ (b x y z w : List ℕ) (at second third last : ℕ) (fits : at + length (line_bytes es s p o) ≤ length b)

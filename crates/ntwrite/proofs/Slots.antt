@@ -40,10 +40,3 @@ slot-filled_at slots terms names i slot some e many old =
 
 pub all_filled : (slots terms : List ℕ) (names i : ℕ) → i ≤ 0 → length slots ≡ 2048 → FilledFrom slots terms names i → Indexed slots terms names
 all_filled slots terms names i none many filled = record { many = many; begins = λ k below. filled k (omega arith) below }
-
--- a number is not looked for too late
-pub not-before : (terms : List ℕ) (names : ℕ) (slots : List ℕ) (n from : ℕ) → Indexed slots terms names → from ≡ get_or slots (slot_of n) 0 → NotBefore terms names from n
-not-before terms names slots n from index e k below before is =
-    let b = index.begins k below in
-    let same = ap (λ (j : ℕ). get_or slots (slot_of j) 0) is in
-    omega arith

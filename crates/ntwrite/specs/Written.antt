@@ -1,8 +1,7 @@
 -- W5: what is written of a term, and of a row.
 use Rattle.std.specs.Prelude.{◌≡◌, List, [], ◌∷◌, ◌++◌, ℕ, zero, suc, ◌+◌, ◌*◌, ◌%◌, ◌≤◌, ◌<◌, length, get_or}
 use Rattle.term.specs.Term.{sort_of}
-use Rattle.field.specs.Numbers.{written}
-use Rattle.names.specs.Names.{Entry, NameLanes, entries_of, text_of}
+use Rattle.names.specs.Names.{Entry, NameLanes, text_of}
 
 -- "a name as `<` text `>`, a blank as `_:` text, a literal as its text"
 unfoldable pub marked : ℕ → List ℕ → List ℕ
@@ -36,12 +35,3 @@ pub record Fit (l : NameLanes) (names : ℕ) (slots : List ℕ) : Type 0 where
   pub equal : length l.ends ≡ length l.terms
   pub short : length l.text ≤ 32768
   pub index : Indexed slots l.terms names
-
--- so many bytes of what a list has fit into `out` from a position on
-abbrev pub FitInto : NameLanes → ℕ → List ℕ → List ℕ → ℕ → (List Entry → List ℕ) → Type 0
-FitInto l names slots out at bytes = Fit l names slots × (at + length (bytes (entries_of l names)) ≤ length out)
-
--- they are laid there, and where they end
-abbrev pub LaidFrom : NameLanes → ℕ → List ℕ → List ℕ → ℕ → ℕ → (List Entry → List ℕ) → Type 0
-LaidFrom l names out after at end bytes =
-    (after ≡ written out at (bytes (entries_of l names))) × (end ≡ at + length (bytes (entries_of l names)))

@@ -1,11 +1,10 @@
-// Where the entries of a number begin at the earliest, so that finding its text does not look at all of a list.
-ghost use Rattle.std.specs.Prelude.{◌≡◌, ◌≤◌, ◌<◌, length, get_or};
-ghost use Rattle.names.specs.Finding.{SpanOf, FirstWith};
-ghost use Rattle.ntwrite.specs.Written.{slot_of, Indexed, Fit};
+// A names list to write from, and where the entries of a number begin at the earliest, so that finding its text does not look at all of the list.
+ghost use Rattle.std.specs.Prelude.{◌≡◌, ◌≤◌, ◌<◌, length};
 ghost use Rattle.names.specs.Names.{lanes_of};
+ghost use Rattle.names.specs.Finding.{FoundWith};
+ghost use Rattle.ntwrite.specs.Written.{slot_of, Indexed, Fit};
 
-use names::Span;
-use names::find::{entry_of, span_at};
+use names::find::entry_of;
 
 // For each sort as many slots as a list has entries at most.
 pub const SLOTS: usize = 2048;
@@ -14,15 +13,7 @@ pub const SLOTS: usize = 2048;
 fn slot_of(n: u16) -> usize
     ensures { (result ≡ slot_of n) × (result < 2048) }
 {
-    term::sort_of(n) as usize % 4 * 512 + n as usize % 512
-}
-
-// Where to begin to look for a number.
-fn from_slot(slots: &[u16], n: u16) -> usize
-    requires { length slots.now ≡ 2048 }
-    ensures { result ≡ get_or slots.now (slot_of n) 0 }
-{
-    slots[slot_of(n)] as usize
+    usize::from(term::sort_of(n)) % 4 * 512 + usize::from(n) % 512
 }
 
 // Each entry into the slot of its number, from the last to the first, so that the first remains.
@@ -30,36 +21,48 @@ pub fn fill(slots: &mut [u16], terms: &[u16], names: usize)
     requires { (length slots.old ≡ 2048) × (names ≤ length terms.now) × (names ≤ 512) }
     ensures { Indexed slots.new terms.now names }
 {
-    let mut i = names;
-    while 0 < i {
-        i -= 1;
+    for i in (0..names).rev() {
         slots[slot_of(terms[i])] = i as u16;
     }
 }
 
-// The first entry with a number; `names` where none has it.
-pub fn entry_by(terms: &[u16], names: usize, slots: &[u16], n: u16) -> usize
-    requires { (names ≤ length terms.now) × Indexed slots.now terms.now names }
-    ensures { FirstWith terms.now names n result }
-{
-    entry_of(terms, names, from_slot(slots, n), n)
+// A names list to write from: its lanes, how many entries it has, and in which slot the entries of a number begin.
+#[derive(Clone, Copy)]
+pub struct Names<'a> {
+    pub terms: &'a [u16],
+    pub ends: &'a [u16],
+    pub text: &'a [u8],
+    pub count: usize,
+    pub slots: &'a [u16],
+    ghost fit: { Fit (lanes_of terms.now ends.now text.now) count slots.now },
 }
 
-// The text of a number that the list has.
-pub fn text_by(
-    terms: &[u16],
-    ends: &[u16],
-    text: &[u8],
-    names: usize,
-    slots: &[u16],
-    n: u16,
-) -> Span
-    requires { Fit (lanes_of terms.now ends.now text.now) names slots.now }
-    ensures { SpanOf (lanes_of terms.now ends.now text.now) names n result.from result.to }
-{
-    let i = entry_by(terms, names, slots, n);
-    if i < names {
-        return span_at(ends, text, i);
+impl<'a> Names<'a> {
+    pub fn new(
+        terms: &'a [u16],
+        ends: &'a [u16],
+        text: &'a [u8],
+        count: usize,
+        slots: &'a [u16],
+    ) -> Names<'a>
+        requires { Fit (lanes_of terms.now ends.now text.now) count slots.now }
+        ensures lanes { lanes_of result.terms.now result.ends.now result.text.now ≡ lanes_of terms.now ends.now text.now }
+        ensures count { result.count ≡ count }
+    {
+        Names {
+            terms,
+            ends,
+            text,
+            count,
+            slots,
+        }
     }
-    Span { from: 0, to: 0 }
+
+    // The first entry with a number.
+    pub fn entry_of(self, n: u16) -> Option<usize>
+        ensures { FoundWith self.entry.terms.now self.entry.count n result }
+    {
+        let from = usize::from(self.slots[slot_of(n)]);
+        entry_of(self.terms, self.count, from, n)
+    }
 }

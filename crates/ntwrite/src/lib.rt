@@ -2,169 +2,113 @@
 // the output has room, is asked before.
 #![tactic(auto)]
 
-ghost use Rattle.std.specs.Prelude.{◌≡◌, ◌≤◌, length};
-ghost use Rattle.names.specs.Names.{lanes_of, entries_of, text_of};
-ghost use Rattle.ntwrite.specs.Written.{Fit, FitInto, LaidFrom, term_bytes, part_bytes, line_bytes};
+ghost use Rattle.std.specs.Prelude.{◌≡◌, ◌+◌, ◌≤◌, length};
+ghost use Rattle.names.specs.Names.{text_in, text_of};
+ghost use Rattle.ntwrite.specs.Written.{term_bytes, part_bytes, line_bytes};
+ghost use Rattle.ntwrite.specs.Listed.{entries_in, LaidFrom};
 
 pub mod index;
 
-use crate::index::text_by;
+use crate::index::Names;
+use names::find::text_at;
+use names::five;
 
-const OPENS: u8 = 60;
+const OPENS: u8 = b'<';
 
-const CLOSES: u8 = 62;
+const CLOSES: u8 = b'>';
 
-const UNDERSCORE: u8 = 95;
+const BLANK: u8 = b' ';
 
-const COLON: u8 = 58;
-
-const BLANK: u8 = 32;
-
-const DOT: u8 = 46;
-
-const LF: u8 = 10;
-
-fn text_size(terms: &[u16], ends: &[u16], text: &[u8], names: usize, slots: &[u16], n: u16) -> usize
-    requires { Fit (lanes_of terms.now ends.now text.now) names slots.now }
-    ensures { (result ≡ length (text_of (entries_of (lanes_of terms.now ends.now text.now) names) n)) × (result ≤ 32768) }
-{
-    if n < names::five::NONE {
-        return names::five::size_of(n);
+impl<'a> Names<'a> {
+    // The text that the list has for a number: no bytes where it has none.
+    fn listed_text(self, n: u16) -> &'a [u8]
+        ensures { (result.now ≡ text_in (entries_in self.entry) n) × (length result.now ≤ 32768) }
+    {
+        match self.entry_of(n) {
+            Some(i) => text_at(self.ends, self.text, i),
+            None => &[],
+        }
     }
-    let span = text_by(terms, ends, text, names, slots, n);
-    span.to - span.from
-}
 
-// A text laid into `out` from `at` on; where it ends.
-fn put_text(
-    out: &mut [u8],
-    at: usize,
-    terms: &[u16],
-    ends: &[u16],
-    text: &[u8],
-    names: usize,
-    slots: &[u16],
-    n: u16,
-) -> usize
-    requires { FitInto (lanes_of terms.now ends.now text.now) names slots.now out.old at (λ es. text_of es n) }
-    ensures { LaidFrom (lanes_of terms.now ends.now text.now) names out.old out.new at result (λ es. text_of es n) }
-{
-    if n < names::five::NONE {
-        names::five::put_five(out, at, n);
-        return at + names::five::size_of(n);
+    // The text of a number.
+    fn text_of(self, n: u16) -> &'a [u8]
+        ensures { (result.now ≡ text_of (entries_in self.entry) n) × (length result.now ≤ 32768) }
+    {
+        if n < five::COUNT {
+            five::text_of(n)
+        } else {
+            self.listed_text(n)
+        }
     }
-    let span = text_by(terms, ends, text, names, slots, n);
-    let from = span.from;
-    let size = span.to - from;
-    names::texts::put(out, at, &text[from..], size);
-    at + size
-}
 
-// How many bytes a term takes.
-pub fn term_size(
-    terms: &[u16],
-    ends: &[u16],
-    text: &[u8],
-    names: usize,
-    slots: &[u16],
-    n: u16,
-) -> usize
-    requires { Fit (lanes_of terms.now ends.now text.now) names slots.now }
-    ensures { (result ≡ length (term_bytes (entries_of (lanes_of terms.now ends.now text.now) names) n)) × (result ≤ 32770) }
-{
-    let size = text_size(terms, ends, text, names, slots, n);
-    if term::sort_of(n) < term::LITERAL {
-        return size + 2;
+    // How many bytes a term takes.
+    pub fn term_size(self, n: u16) -> usize
+        ensures { (result ≡ length (term_bytes (entries_in self.entry) n)) × (result ≤ 32770) }
+    {
+        let size = self.text_of(n).len();
+        if term::sort_of(n) < term::LITERAL {
+            size + 2
+        } else {
+            size
+        }
     }
-    size
-}
 
-// A term laid into `out` from `at` on; where it ends.
-fn put_term(
-    out: &mut [u8],
-    at: usize,
-    terms: &[u16],
-    ends: &[u16],
-    text: &[u8],
-    names: usize,
-    slots: &[u16],
-    n: u16,
-) -> usize
-    requires { FitInto (lanes_of terms.now ends.now text.now) names slots.now out.old at (λ es. term_bytes es n) }
-    ensures { LaidFrom (lanes_of terms.now ends.now text.now) names out.old out.new at result (λ es. term_bytes es n) }
-{
-    let sort = term::sort_of(n);
-    if sort == term::NAME {
-        out[at] = OPENS;
-        let end = put_text(out, at + 1, terms, ends, text, names, slots, n);
-        out[end] = CLOSES;
-        return end + 1;
+    // How many bytes a row's line takes.
+    pub fn line_size(self, s: u16, p: u16, o: u16) -> usize
+        ensures { (result ≡ length (line_bytes (entries_in self.entry) s p o)) × (result ≤ 98315) }
+    {
+        self.term_size(s) + self.term_size(p) + self.term_size(o) + 5
     }
-    if sort == term::BLANK {
-        field::put_pair(out, at, UNDERSCORE, COLON);
-        return put_text(out, at + 2, terms, ends, text, names, slots, n);
+
+    // A number's text laid into `out` from `at` on; where it ends.
+    fn put_text(self, out: &mut [u8], at: usize, n: u16) -> usize
+        requires { at + length (text_of (entries_in self) n) ≤ length out.old }
+        ensures { LaidFrom (text_of (entries_in self.entry) n) out.old out.new at result }
+    {
+        let text = self.text_of(n);
+        names::texts::put(out, at, text, text.len());
+        at + text.len()
     }
-    put_text(out, at, terms, ends, text, names, slots, n)
-}
 
-// A term and the blank behind it; where the next begins.
-fn put_part(
-    out: &mut [u8],
-    at: usize,
-    terms: &[u16],
-    ends: &[u16],
-    text: &[u8],
-    names: usize,
-    slots: &[u16],
-    n: u16,
-) -> usize
-    requires { FitInto (lanes_of terms.now ends.now text.now) names slots.now out.old at (λ es. part_bytes es n) }
-    ensures { LaidFrom (lanes_of terms.now ends.now text.now) names out.old out.new at result (λ es. part_bytes es n) }
-{
-    let end = put_term(out, at, terms, ends, text, names, slots, n);
-    out[end] = BLANK;
-    end + 1
-}
+    // A term laid into `out` from `at` on; where it ends.
+    fn put_term(self, out: &mut [u8], at: usize, n: u16) -> usize
+        requires { at + length (term_bytes (entries_in self) n) ≤ length out.old }
+        ensures { LaidFrom (term_bytes (entries_in self.entry) n) out.old out.new at result }
+    {
+        match term::sort_of(n) {
+            term::NAME => {
+                out[at] = OPENS;
+                let end = self.put_text(out, at + 1, n);
+                out[end] = CLOSES;
+                end + 1
+            }
+            term::BLANK => {
+                field::put_pair(out, at, b'_', b':');
+                self.put_text(out, at + 2, n)
+            }
+            _ => self.put_text(out, at, n),
+        }
+    }
 
-// How many bytes a row's line takes.
-pub fn line_size(
-    terms: &[u16],
-    ends: &[u16],
-    text: &[u8],
-    names: usize,
-    slots: &[u16],
-    s: u16,
-    p: u16,
-    o: u16,
-) -> usize
-    requires { Fit (lanes_of terms.now ends.now text.now) names slots.now }
-    ensures { (result ≡ length (line_bytes (entries_of (lanes_of terms.now ends.now text.now) names) s p o)) × (result ≤ 98315) }
-{
-    let subject = term_size(terms, ends, text, names, slots, s);
-    let predicate = term_size(terms, ends, text, names, slots, p);
-    let object = term_size(terms, ends, text, names, slots, o);
-    subject + predicate + object + 5
-}
+    // A term and the blank behind it; where the next begins.
+    fn put_part(self, out: &mut [u8], at: usize, n: u16) -> usize
+        requires { at + length (part_bytes (entries_in self) n) ≤ length out.old }
+        ensures { LaidFrom (part_bytes (entries_in self.entry) n) out.old out.new at result }
+    {
+        let end = self.put_term(out, at, n);
+        out[end] = BLANK;
+        end + 1
+    }
 
-// A row's line laid into `out` from `at` on; where the next begins.
-pub fn put_line(
-    out: &mut [u8],
-    at: usize,
-    terms: &[u16],
-    ends: &[u16],
-    text: &[u8],
-    names: usize,
-    slots: &[u16],
-    s: u16,
-    p: u16,
-    o: u16,
-) -> usize
-    requires { FitInto (lanes_of terms.now ends.now text.now) names slots.now out.old at (λ es. line_bytes es s p o) }
-    ensures { LaidFrom (lanes_of terms.now ends.now text.now) names out.old out.new at result (λ es. line_bytes es s p o) }
-{
-    let second = put_part(out, at, terms, ends, text, names, slots, s);
-    let third = put_part(out, second, terms, ends, text, names, slots, p);
-    let last = put_part(out, third, terms, ends, text, names, slots, o);
-    field::put_pair(out, last, DOT, LF);
-    last + 2
+    // A row's line laid into `out` from `at` on; where the next begins.
+    pub fn put_line(self, out: &mut [u8], at: usize, s: u16, p: u16, o: u16) -> usize
+        requires { at + length (line_bytes (entries_in self) s p o) ≤ length out.old }
+        ensures { LaidFrom (line_bytes (entries_in self.entry) s p o) out.old out.new at result }
+    {
+        let second = self.put_part(out, at, s);
+        let third = self.put_part(out, second, p);
+        let last = self.put_part(out, third, o);
+        field::put_pair(out, last, b'.', b'\n');
+        last + 2
+    }
 }

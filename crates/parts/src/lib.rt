@@ -10,6 +10,5 @@ mod slots;
 pub use fields::{BOTH, EITHER, FieldIn, ONLY, TEST_FIELD, TRIPLE, field_at};
 pub use outside::stray_in;
 pub use slots::{
-    ANNOTATION_VARIABLES, TERM_VARIABLES, loose_here, or_else, test_refusal, test_vars,
-    triple_refusal, triple_vars,
+    ANNOTATION_VARIABLES, TERM_VARIABLES, test_refusal, test_vars, triple_refusal, triple_vars,
 };

@@ -3,10 +3,11 @@
 ghost use Rattle.std.specs.Prelude.{◌≡◌, ◌+◌, ◌≤◌, length};
 ghost use Rattle.parts.specs.Format.{pattern_at, test_at};
 ghost use Rattle.parts.specs.Outside.{pattern_annotation, test_annotation};
+ghost use Rattle.parts.specs.Bound.{numbered};
 ghost use Rattle.parts.specs.Holding.{UsedIn, UsedPair, StrayIn, StrayPair, StrayOnly};
 
-use crate::fields::FieldIn;
-use crate::{fields, slots};
+use crate::fields::{FieldIn, ONLY, TRIPLE, field_at};
+use crate::slots;
 use field::two;
 
 fn triple_annotation(b: &[u8], from: usize) -> u64
@@ -20,13 +21,10 @@ fn test_annotation(b: &[u8], from: usize) -> u64
     requires { from + 3 ≤ length b.now }
     ensures { result ≡ test_annotation (test_at b.now from) }
 {
-    let mark = b[from];
-    if mark < 2 {
-        0
-    } else {
-        let v = two(b, from + 1);
-        slots::bit(v as u64, slots::ANNOTATION_VARIABLES) * slots::ABOVE_TERMS
+    if b[from] < 2 {
+        return 0;
     }
+    slots::annotation_bit(u64::from(two(b, from + 1)))
 }
 
 #[cycle(used_in_used_pair)]
@@ -34,22 +32,14 @@ fn used_in(b: &[u8], at: usize, end: usize) -> u64
     requires { (at ≤ end) × (end ≤ length b.now) }
     ensures { UsedIn b.now at end result }
 {
-    let h = fields::field_at(b, at, end);
-    match h {
-        FieldIn::Unfit => 0,
-        FieldIn::Within(tag, from, to) => {
-            if tag == fields::TRIPLE {
-                if to - from == slots::TRIPLE_SIZE {
-                    triple_annotation(b, from)
-                } else {
-                    0
-                }
-            } else if tag == fields::ONLY {
-                used_in(b, from, to)
-            } else {
-                used_pair(b, from, to)
-            }
-        }
+    let Some(f) = field_at(b, at, end) else {
+        return 0;
+    };
+    match f.tag {
+        TRIPLE if f.to - f.from == slots::TRIPLE_SIZE => triple_annotation(b, f.from),
+        TRIPLE => 0,
+        ONLY => used_in(b, f.from, f.to),
+        _ => used_pair(b, f.from, f.to),
     }
 }
 
@@ -58,72 +48,60 @@ fn used_pair(b: &[u8], at: usize, end: usize) -> u64
     requires { (at ≤ end) × (end ≤ length b.now) }
     ensures { UsedPair b.now at end result }
 {
-    let h = fields::field_at(b, at, end);
-    match h {
-        FieldIn::Unfit => 0,
-        FieldIn::Within(tag, from, to) => {
-            let l = used_in(b, at, end);
-            let r = used_in(b, to, end);
-            l | r
-        }
-    }
+    let Some(left) = field_at(b, at, end) else {
+        return 0;
+    };
+    used_in(b, at, end) | used_in(b, left.to, end)
 }
 
-// `outer` has the variables of the triples outside.
+// The place of the first such ONLY. `outer` has the variables of the triples outside.
 #[cycle(stray_in_stray_pair)]
-pub fn stray_in(b: &[u8], at: usize, end: usize, outer: u64) -> usize
+pub fn stray_in(b: &[u8], at: usize, end: usize, outer: u64) -> Option<usize>
     requires { (at ≤ end) × (end ≤ length b.now) }
-    ensures { StrayIn b.now at end outer result }
+    ensures { StrayIn b.now at end outer (numbered result) }
 {
-    let h = fields::field_at(b, at, end);
-    match h {
-        FieldIn::Unfit => 0,
-        FieldIn::Within(tag, from, to) => {
-            if tag == fields::TRIPLE {
-                0
-            } else if tag == fields::ONLY {
-                let inner = stray_in(b, from, to, outer);
-                stray_test(b, at, from, to, outer, inner)
-            } else {
-                stray_pair(b, from, to, outer)
-            }
+    let f = field_at(b, at, end)?;
+    match f.tag {
+        TRIPLE => None,
+        ONLY => {
+            let inner = stray_in(b, f.from, f.to, outer);
+            stray_test(b, at, f, outer, inner)
         }
+        _ => stray_pair(b, f.from, f.to, outer),
     }
 }
 
 #[cycle(stray_in_stray_pair)]
-fn stray_pair(b: &[u8], at: usize, end: usize, outer: u64) -> usize
+fn stray_pair(b: &[u8], at: usize, end: usize, outer: u64) -> Option<usize>
     requires { (at ≤ end) × (end ≤ length b.now) }
-    ensures { StrayPair b.now at end outer result }
+    ensures { StrayPair b.now at end outer (numbered result) }
 {
-    let h = fields::field_at(b, at, end);
-    match h {
-        FieldIn::Unfit => 0,
-        FieldIn::Within(tag, from, to) => {
-            let left = used_in(b, at, end);
-            let right = used_in(b, to, end);
-            let first = stray_in(b, at, end, outer | right);
-            let second = stray_in(b, to, end, outer | left);
-            slots::or_else(first, second)
-        }
-    }
+    let mid = field_at(b, at, end)?.to;
+    let left = used_in(b, at, end);
+    let right = used_in(b, mid, end);
+    let first = stray_in(b, at, end, outer | right);
+    let second = stray_in(b, mid, end, outer | left);
+    first.or(second)
 }
 
 // An ONLY's own test is before those in its part.
-fn stray_test(b: &[u8], holder: usize, at: usize, end: usize, outer: u64, inner: usize) -> usize
-    requires { (holder ≤ at) × (at ≤ end) × (end ≤ length b.now) }
-    ensures { StrayIn b.now at end outer inner → StrayOnly b.now holder at end outer result }
+fn stray_test(
+    b: &[u8],
+    holder: usize,
+    only: FieldIn,
+    outer: u64,
+    inner: Option<usize>,
+) -> Option<usize>
+    requires { (only.from ≤ only.to) × (only.to ≤ length b.now) }
+    ensures { StrayIn b.now only.from only.to outer (numbered inner) → StrayOnly b.now holder only.from only.to outer (numbered result) }
 {
-    let h = fields::field_at(b, at, end);
-    match h {
-        FieldIn::Unfit => 0,
-        FieldIn::Within(tag, from, to) => {
-            if end - to < 6 {
-                0
-            } else {
-                let note = test_annotation(b, to + 3);
-                if note & outer == 0 { inner } else { holder + 1 }
-            }
-        }
+    let to = field_at(b, only.from, only.to)?.to;
+    if only.to - to < 6 {
+        return None;
+    }
+    if test_annotation(b, to + 3) & outer == 0 {
+        inner
+    } else {
+        Some(holder)
     }
 }

@@ -1,26 +1,13 @@
 -- How many plans there are, and which: rule set 1 has the first eight of all. Assumes nothing.
-use mathlib.Core.Path.{◌≡◌, refl, ap, ◌∙◌, sym}
+use mathlib.Core.Path.{◌≡◌, refl, ◌∙◌, sym}
 use mathlib.Core.Bool.{Bool, true, false, cond}
-use Prim.Native.Nat.{ℕ, ◌+◌, ◌-◌, ◌≤◌, ◌<◌}
-use native.Mathlib.Omega.{arith}
+use Prim.Native.Nat.{ℕ, ◌≤◌, ◌<◌}
 use lib.Dec.{eqb}
 use lib.ListN.{length, get_or-append}
-use lib.Seq.{get_or-append-add}
 use Rattle.ruleset.specs.RuleSet.{reflexive_set}
-use Rattle.table.specs.Rows.{Triple, triple}
+use Rattle.table.specs.Rows.{Triple}
 use Rattle.plans.specs.declared.Plan.{Plan}
 use Rattle.plans.specs.Plans.{off_plan, plans_of, reflexive_plans, all_plans, plans_with, plans_for, plan_at, plan_count_lem}
-
--- past j, and not j
-pub above : (j : ℕ) {k : ℕ} → j ≤ k → (k ≡ j → ⊥) → j + 1 ≤ k
-above j h n = omega arith
-
--- the plans of the reflexive lines stand behind the eight of the rules
-pub past_eight : (x d y k : ℕ) → 8 ≤ k → plan_at (reflexive_plans x d y) (k - 8) ≡ plan_at (all_plans (triple x d y)) k
-unfolding plans_of
-past_eight x d y k h =
-    let e : k ≡ 8 + (k - 8) = omega arith in
-    sym (ap (plan_at (all_plans (triple x d y))) e ∙ get_or-append-add (plans_of x d y) (reflexive_plans x d y) (k - 8) off_plan)
 
 pub plans_counted : (rules : ℕ) (t : Triple) → length (plans_for rules t) ≡ plan_count_lem rules
 unfolding plans_of reflexive_plans

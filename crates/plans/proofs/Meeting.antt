@@ -9,35 +9,36 @@ use Rattle.annotation.proofs.Order.{at_most_trans, bottom-at_most, meet-at_most_
 use Rattle.table.specs.Rows.{triple}
 use Rattle.rhodf.specs.Graph.{Graph, Valued}
 use Rattle.plans.specs.declared.Plan.{Plan}
+use Rattle.plans.specs.declared.Plan.TheVariants.{Off, Rows, Alone}
+use Rattle.plans.specs.declared.Each.{Each}
+use Rattle.plans.specs.declared.Each.TheVariants.{Once, Behind}
+use Rattle.plans.specs.declared.Once.TheVariants.{Straight, Renaming}
 use Rattle.plans.specs.Plans.{Met, Obeyed}
 
-module _ (K : Algebra) (L : Laws K) (G : Graph) (v : Valued K G) (plan : Plan) where
-  pub met-lower : (z c c' : ℕ) → K.Value c → K.Value c' → AtMost K c c' → Met K G plan z c' → Met K G plan z c
-  met-lower z c c' vc vc' low m = record {
-    straight = λ e named. at_most_trans K L c c' _ low (m.straight e named);
-    renaming = λ e named. at_most_trans K L c c' _ low (m.renaming e named);
-    behind = λ e w named.
-        let b = G (triple z plan.t w) in
-        at_most_trans K L (K.meet c b) (K.meet c' b) _ (meet-at_most_left K L c c' b vc vc' (v.value (triple z plan.t w)) low) (m.behind e w named);
-  }
+module _ (K : Algebra) (L : Laws K) (G : Graph) (v : Valued K G) where
+  pub met-lower : (each : Each) (z c c' : ℕ) → K.Value c → K.Value c' → AtMost K c c' → Met K G each z c' → Met K G each z c
+  met-lower (Once (Straight s p)) z c c' vc vc' low m = λ named. at_most_trans K L c c' _ low (m named)
+  met-lower (Once (Renaming s o)) z c c' vc vc' low m = λ named. at_most_trans K L c c' _ low (m named)
+  met-lower (Behind d) z c c' vc vc' low m = λ w named.
+      let b = G (triple z d.t w) in
+      at_most_trans K L (K.meet c b) (K.meet c' b) _ (meet-at_most_left K L c c' b vc vc' (v.value (triple z d.t w)) low) (m w named)
 
-  pub met-bottom : (z : ℕ) → Met K G plan z 0
-  met-bottom z = record {
-    straight = λ e named. bottom-at_most K L _;
-    renaming = λ e named. bottom-at_most K L _;
-    behind = λ e w named.
-        let b = G (triple z plan.t w) in
-        rw (L.meet_comm 0 b, L.meet_bottom b (v.value (triple z plan.t w))) (bottom-at_most K L _);
-  }
+  pub met-bottom : (each : Each) (z : ℕ) → Met K G each z 0
+  met-bottom (Once (Straight s p)) z = λ named. bottom-at_most K L _
+  met-bottom (Once (Renaming s o)) z = λ named. bottom-at_most K L _
+  met-bottom (Behind d) z = λ w named.
+      let b = G (triple z d.t w) in
+      rw (L.meet_comm 0 b, L.meet_bottom b (v.value (triple z d.t w))) (bottom-at_most K L _)
 
-  pub obeyed_lower : (a a' : ℕ) → K.Value a → K.Value a' → AtMost K a a' → Obeyed K G plan a' → Obeyed K G plan a
-  obeyed_lower a a' va va' low o = record {
-    met = λ z.
-        let t = triple plan.q plan.r z in
-        met-lower z (K.meet a (G t)) (K.meet a' (G t)) (L.meet_value a (G t) va (v.value t)) (L.meet_value a' (G t) va' (v.value t))
-        (meet-at_most_left K L a a' (G t) va va' (v.value t) low) (o.met z);
-    alone = λ e named. at_most_trans K L a a' _ low (o.alone e named);
+  pub obeyed_lower : (plan : Plan) (a a' : ℕ) → K.Value a → K.Value a' → AtMost K a a' → Obeyed K G plan a' → Obeyed K G plan a
+  obeyed_lower Off a a' va va' low o = record { obeyed = tt }
+  obeyed_lower (Rows q r each) a a' va va' low o = record {
+    obeyed = λ z.
+        let t = triple q r z in
+        met-lower each z (K.meet a (G t)) (K.meet a' (G t)) (L.meet_value a (G t) va (v.value t)) (L.meet_value a' (G t) va' (v.value t))
+        (meet-at_most_left K L a a' (G t) va va' (v.value t) low) (o.obeyed z);
   }
+  obeyed_lower (Alone s p) a a' va va' low o = record { obeyed = λ named. at_most_trans K L a a' _ low (o.obeyed named) }
 
 -- all of a list, by their index
 module _ {A : Type 0} (P : A → Type 0) (past : A) where

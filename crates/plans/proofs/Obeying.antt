@@ -3,9 +3,7 @@
 use mathlib.Core.Path.{◌≡◌, refl, sym, ap, ◌∙◌}
 use mathlib.Core.Bool.{Bool, true, false}
 use mathlib.Core.List.{List, [], ◌∷◌}
-use mathlib.Core.Logic.{◌⊎◌, inl, inr}
 use Prim.Native.Nat.{ℕ, ◌<◌}
-use native.Mathlib.Omega.{arith}
 use lib.Dec.{eqb}
 use borrow.Author.Tests.{eqb-true}
 use Rattle.ground.specs.Lists.{All}
@@ -20,7 +18,7 @@ use Rattle.rhodf.specs.Closure.{Closed}
 use Rattle.rhodf.proofs.Graphs.{AllHeld}
 use Rattle.rhodf.proofs.Drawing.{closed-where_held, LegalTriple}
 use Rattle.plans.specs.declared.Plan.{Plan}
-use Rattle.plans.specs.Plans.{shape_off, shape_alone, straight_if, renaming_plan, behind_plan, alone_if, plans_of, reflexive_plans, plans_with, plans_for, LegalPlan, Met, Obeyed}
+use Rattle.plans.specs.Plans.{straight_if, renaming_plan, behind_plan, alone_if, plans_of, reflexive_plans, plans_with, plans_for, LegalPlan, Obeyed}
 use Rattle.plans.proofs.Driven.{Driven, AllObeyed, driven_together}
 
 -- the And of a rule's premises, from the row that it is driven from
@@ -37,47 +35,22 @@ module _ (K : Algebra) (L : Laws K) (G : Graph) (v : Valued K G) (t u w : Triple
 -- plans of each shape
 straight-obeyed : (K : Algebra) (G : Graph) (on : Bool) (q r s p a : ℕ)
     → (on ≡ true → (z : ℕ) → Drawn (triple s p z) → AtMost K (K.meet a (G (triple q r z))) (G (triple s p z))) → Obeyed K G (straight_if on q r s p) a
-straight-obeyed K G true q r s p a h = record {
-  met = λ z. record { straight = λ e. h refl z; renaming = λ e. absurd (omega arith); behind = λ e. absurd (omega arith) };
-  alone = λ e. absurd (omega arith);
-}
-straight-obeyed K G false q r s p a h = record {
-  met = λ z. record { straight = λ e. absurd (omega arith); renaming = λ e. absurd (omega arith); behind = λ e. absurd (omega arith) };
-  alone = λ e. absurd (omega arith);
-}
+straight-obeyed K G true q r s p a h = record { obeyed = h refl }
+straight-obeyed K G false q r s p a h = record { obeyed = tt }
 
 renaming-obeyed : (K : Algebra) (G : Graph) (q r s o a : ℕ)
     → ((z : ℕ) → Drawn (triple s z o) → AtMost K (K.meet a (G (triple q r z))) (G (triple s z o))) → Obeyed K G (renaming_plan q r s o) a
-renaming-obeyed K G q r s o a h = record {
-  met = λ z. record { straight = λ e. absurd (omega arith); renaming = λ e. h z; behind = λ e. absurd (omega arith) };
-  alone = λ e. absurd (omega arith);
-}
+renaming-obeyed K G q r s o a h = record { obeyed = h }
 
 behind-obeyed : (K : Algebra) (G : Graph) (q r t s p a : ℕ)
     → ((w z : ℕ) → Drawn (triple s p z) → AtMost K (K.meet (K.meet a (G (triple q r w))) (G (triple w t z))) (G (triple s p z)))
     → Obeyed K G (behind_plan q r t s p) a
-behind-obeyed K G q r t s p a h = record {
-  met = λ z. record { straight = λ e. absurd (omega arith); renaming = λ e. absurd (omega arith); behind = λ e. h z };
-  alone = λ e. absurd (omega arith);
-}
-
--- nothing is met, and what is given is at most its value
-none-met : (K : Algebra) (G : Graph) (plan : Plan) (z c : ℕ) → (plan.shape ≡ shape_off) ⊎ (plan.shape ≡ shape_alone) → Met K G plan z c
-none-met K G plan z c (inl e) = record {
-  straight = λ f. absurd (omega (arith, e, f));
-  renaming = λ f. absurd (omega (arith, e, f));
-  behind = λ f. absurd (omega (arith, e, f));
-}
-none-met K G plan z c (inr e) = record {
-  straight = λ f. absurd (omega (arith, e, f));
-  renaming = λ f. absurd (omega (arith, e, f));
-  behind = λ f. absurd (omega (arith, e, f));
-}
+behind-obeyed K G q r t s p a h = record { obeyed = h }
 
 alone-obeyed : (K : Algebra) (G : Graph) (on : Bool) (s p a : ℕ)
     → (on ≡ true → Drawn (triple s p s) → AtMost K a (G (triple s p s))) → Obeyed K G (alone_if on s p) a
-alone-obeyed K G true s p a h = record { met = λ z. none-met K G (alone_if true s p) z _ (inr refl); alone = λ e. h refl }
-alone-obeyed K G false s p a h = record { met = λ z. none-met K G (alone_if false s p) z _ (inl refl); alone = λ e. absurd (omega arith) }
+alone-obeyed K G true s p a h = record { obeyed = h refl }
+alone-obeyed K G false s p a h = record { obeyed = tt }
 
 abbrev plain_plans : Triple → List Plan
 plain_plans t = plans_of t.s t.p t.o
@@ -117,42 +90,39 @@ module _ (K : Algebra) (L : Laws K) (G : Graph) (v : Valued K G) (all : (t : Tri
   obeyed_closed : (ps : List Triple) (t : Triple) → Rule ps t → AllHeld G ps → Drawn t → AtMost K (meet_all K G ps) (G t)
   unfolding plans_of
   obeyed_closed ps t (r2a a b c) h named =
-      rw (← meet-row_first K L G v (triple a sp b) (triple b sp c) t) (((all (triple a sp b) h.0).0.met c).straight refl named)
+      rw (← meet-row_first K L G v (triple a sp b) (triple b sp c) t) (((all (triple a sp b) h.0).0.obeyed c) named)
   obeyed_closed ps t (r2b d e x y) h named =
-      rw (← meet-row_last K L G v (triple x d y) (triple d sp e) t) (((all (triple x d y) h.1.0).1.0.met e).renaming refl named)
+      rw (← meet-row_last K L G v (triple x d y) (triple d sp e) t) (((all (triple x d y) h.1.0).1.0.obeyed e) named)
   obeyed_closed ps t (r3a a b c) h named =
-      rw (← meet-row_first K L G v (triple a sc b) (triple b sc c) t) (((all (triple a sc b) h.0).1.1.0.met c).straight refl named)
+      rw (← meet-row_first K L G v (triple a sc b) (triple b sc c) t) (((all (triple a sc b) h.0).1.1.0.obeyed c) named)
   obeyed_closed ps t (r3b a b x) h named =
-      rw (← meet-row_last K L G v (triple x type a) (triple a sc b) t) (((all (triple x type a) h.1.0).1.1.1.0.met b).straight refl named)
+      rw (← meet-row_last K L G v (triple x type a) (triple a sc b) t) (((all (triple x type a) h.1.0).1.1.1.0.obeyed b) named)
   obeyed_closed ps t (r4a d b x y) h named =
-      rw (← meet-row_last K L G v (triple x d y) (triple d dom b) t) (((all (triple x d y) h.1.0).1.1.1.1.0.met b).straight refl named)
+      rw (← meet-row_last K L G v (triple x d y) (triple d dom b) t) (((all (triple x d y) h.1.0).1.1.1.1.0.obeyed b) named)
   obeyed_closed ps t (r4b d b x y) h named =
-      rw (← meet-row_last K L G v (triple x d y) (triple d range b) t) (((all (triple x d y) h.1.0).1.1.1.1.1.0.met b).straight refl named)
+      rw (← meet-row_last K L G v (triple x d y) (triple d range b) t) (((all (triple x d y) h.1.0).1.1.1.1.1.0.obeyed b) named)
   obeyed_closed ps t (r5a a b d x y) h named =
       rw (← meet-row_third K L G v (triple x d y) (triple d sp a) (triple a dom b))
-      (((all (triple x d y) h.1.1.0).1.1.1.1.1.1.0.met a).behind refl b named)
+      (((all (triple x d y) h.1.1.0).1.1.1.1.1.1.0.obeyed a) b named)
   obeyed_closed ps t (r5b a b d x y) h named =
       rw (← meet-row_third K L G v (triple x d y) (triple d sp a) (triple a range b))
-      (((all (triple x d y) h.1.1.0).1.1.1.1.1.1.1.0.met a).behind refl b named)
+      (((all (triple x d y) h.1.1.0).1.1.1.1.1.1.1.0.obeyed a) b named)
 
 plans_legal : (x d y : ℕ) → LegalTriple (triple x d y) → All LegalPlan (plans_of x d y)
 unfolding plans_of
 plans_legal x d y h = (
-  straight-legal (eqb d sp),
+  straight-legal (eqb d sp) y sp sp,
   (
-    record { known = omega arith; subject = h.subject; object = h.object },
+    record { subject = h.subject; object = h.object },
     (
-      straight-legal (eqb d sc),
+      straight-legal (eqb d sc) y sc sc,
       (
-        straight-legal (eqb d type),
+        straight-legal (eqb d type) y sc type,
         (
-          straight-legal true,
+          straight-legal true d dom type,
           (
-            record { known = omega arith; subject = h.object; object = h.object },
-            (
-              record { known = omega arith; subject = h.subject; object = h.subject },
-              (record { known = omega arith; subject = h.object; object = h.object }, tt),
-            ),
+            record { subject = h.object; object = h.object },
+            (record { subject = h.subject; object = h.subject }, (record { subject = h.object; object = h.object }, tt)),
           ),
         ),
       ),
@@ -160,9 +130,9 @@ plans_legal x d y h = (
   ),
 )
   where
-    straight-legal : (on : Bool) {q r p : ℕ} → LegalPlan (straight_if on q r x p)
-    straight-legal true = record { known = omega arith; subject = h.subject; object = h.subject }
-    straight-legal false = record { known = omega arith; subject = h.subject; object = h.subject }
+    straight-legal : (on : Bool) (q r p : ℕ) → LegalPlan (straight_if on q r x p)
+    straight-legal true q r p = record { subject = h.subject; object = h.subject }
+    straight-legal false q r p = record { subject = refl; object = refl }
 
 rhodf_driven : Driven Rule plain_plans
 rhodf_driven = record {
@@ -199,45 +169,45 @@ module _ (K : Algebra) (L : Laws K) (G : Graph) (v : Valued K G) where
   obeyed_closed_lines : ((t : Triple) → 0 < G t → AllObeyed K line_plans G t) → (ps : List Triple) (t : Triple) → Reflexive ps t → AllHeld G ps → Drawn t
       → AtMost K (meet_all K G ps) (G t)
   unfolding reflexive_plans
-  obeyed_closed_lines all ps t (r9 x a y) h named = rw (meet-alone (triple x a y)) ((all (triple x a y) h.0).0.alone refl named)
-  obeyed_closed_lines all ps t (r10 a b) h named = rw (meet-alone (triple a sp b)) ((all (triple a sp b) h.0).1.0.alone refl named)
-  obeyed_closed_lines all ps t (r11 a b) h named = rw (meet-alone (triple a sp b)) ((all (triple a sp b) h.0).1.1.0.alone refl named)
-  obeyed_closed_lines all ps t (r12 a b) h named = rw (meet-alone (triple a dom b)) ((all (triple a dom b) h.0).1.1.1.0.alone refl named)
-  obeyed_closed_lines all ps t (r13 a b) h named = rw (meet-alone (triple a range b)) ((all (triple a range b) h.0).1.1.1.1.0.alone refl named)
-  obeyed_closed_lines all ps t (r14 a b) h named = rw (meet-alone (triple a sc b)) ((all (triple a sc b) h.0).1.1.1.1.1.0.alone refl named)
-  obeyed_closed_lines all ps t (r15 a b) h named = rw (meet-alone (triple a sc b)) ((all (triple a sc b) h.0).1.1.1.1.1.1.0.alone refl named)
-  obeyed_closed_lines all ps t (r16 x a) h named = rw (meet-alone (triple x type a)) ((all (triple x type a) h.0).1.1.1.1.1.1.1.0.alone refl named)
-  obeyed_closed_lines all ps t (r17 x a) h named = rw (meet-alone (triple x dom a)) ((all (triple x dom a) h.0).1.1.1.1.1.1.1.1.0.alone refl named)
-  obeyed_closed_lines all ps t (r18 x a) h named = rw (meet-alone (triple x range a)) ((all (triple x range a) h.0).1.1.1.1.1.1.1.1.1.0.alone refl named)
+  obeyed_closed_lines all ps t (r9 x a y) h named = rw (meet-alone (triple x a y)) ((all (triple x a y) h.0).0.obeyed named)
+  obeyed_closed_lines all ps t (r10 a b) h named = rw (meet-alone (triple a sp b)) ((all (triple a sp b) h.0).1.0.obeyed named)
+  obeyed_closed_lines all ps t (r11 a b) h named = rw (meet-alone (triple a sp b)) ((all (triple a sp b) h.0).1.1.0.obeyed named)
+  obeyed_closed_lines all ps t (r12 a b) h named = rw (meet-alone (triple a dom b)) ((all (triple a dom b) h.0).1.1.1.0.obeyed named)
+  obeyed_closed_lines all ps t (r13 a b) h named = rw (meet-alone (triple a range b)) ((all (triple a range b) h.0).1.1.1.1.0.obeyed named)
+  obeyed_closed_lines all ps t (r14 a b) h named = rw (meet-alone (triple a sc b)) ((all (triple a sc b) h.0).1.1.1.1.1.0.obeyed named)
+  obeyed_closed_lines all ps t (r15 a b) h named = rw (meet-alone (triple a sc b)) ((all (triple a sc b) h.0).1.1.1.1.1.1.0.obeyed named)
+  obeyed_closed_lines all ps t (r16 x a) h named = rw (meet-alone (triple x type a)) ((all (triple x type a) h.0).1.1.1.1.1.1.1.0.obeyed named)
+  obeyed_closed_lines all ps t (r17 x a) h named = rw (meet-alone (triple x dom a)) ((all (triple x dom a) h.0).1.1.1.1.1.1.1.1.0.obeyed named)
+  obeyed_closed_lines all ps t (r18 x a) h named = rw (meet-alone (triple x range a)) ((all (triple x range a) h.0).1.1.1.1.1.1.1.1.1.0.obeyed named)
 
 line-plans_legal : (x d y : ℕ) → LegalTriple (triple x d y) → All LegalPlan (reflexive_plans x d y)
 unfolding reflexive_plans
 line-plans_legal x d y h = (
-  alone-legal true d (name_legal d h.predicate),
+  alone-legal true d sp (name_legal d h.predicate),
   (
-    of_subject (eqb d sp),
+    of_subject (eqb d sp) sp,
     (
-      of_object (eqb d sp),
+      of_object (eqb d sp) sp,
       (
-        of_subject (eqb d dom),
+        of_subject (eqb d dom) sp,
         (
-          of_subject (eqb d range),
-          (of_subject (eqb d sc), (of_object (eqb d sc), (of_object (eqb d type), (of_object (eqb d dom), (of_object (eqb d range), tt))))),
+          of_subject (eqb d range) sp,
+          (of_subject (eqb d sc) sc, (of_object (eqb d sc) sc, (of_object (eqb d type) sc, (of_object (eqb d dom) sc, (of_object (eqb d range) sc, tt))))),
         ),
       ),
     ),
   ),
 )
   where
-    alone-legal : (on : Bool) (s : ℕ) {p : ℕ} → is_legal_term s ≡ true → LegalPlan (alone_if on s p)
-    alone-legal true s e = record { known = omega arith; subject = e; object = e }
-    alone-legal false s e = record { known = omega arith; subject = e; object = e }
+    alone-legal : (on : Bool) (s p : ℕ) → is_legal_term s ≡ true → LegalPlan (alone_if on s p)
+    alone-legal true s p e = record { subject = e; object = e }
+    alone-legal false s p e = record { subject = refl; object = refl }
 
-    of_subject : (on : Bool) {p : ℕ} → LegalPlan (alone_if on x p)
-    of_subject on = alone-legal on x h.subject
+    of_subject : (on : Bool) (p : ℕ) → LegalPlan (alone_if on x p)
+    of_subject on p = alone-legal on x p h.subject
 
-    of_object : (on : Bool) {p : ℕ} → LegalPlan (alone_if on y p)
-    of_object on = alone-legal on y h.object
+    of_object : (on : Bool) (p : ℕ) → LegalPlan (alone_if on y p)
+    of_object on p = alone-legal on y p h.object
 
 lines_driven : Driven Reflexive line_plans
 lines_driven = record {

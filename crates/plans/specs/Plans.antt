@@ -1,5 +1,5 @@
 -- Scaffolding, cited by inner contracts alone: the rules of a set driven from one triple, which rows each looks for, and what each of those gives.
-use Rattle.std.specs.Prelude.{◌≡◌, Bool, true, false, cond, List, [], ◌∷◌, ◌++◌, ℕ, ◌≤◌, eqb, get_or}
+use Rattle.std.specs.Prelude.{◌≡◌, Bool, true, false, cond, List, [], ◌∷◌, ◌++◌, ℕ, eqb, get_or}
 use Rattle.ruleset.specs.RuleSet.{reflexive_set}
 use Rattle.term.specs.Term.{sp, sc, type, dom, range, is_legal_term}
 use Rattle.annotation.specs.Algebra.{Algebra, AtMost}
@@ -7,42 +7,52 @@ use Rattle.table.specs.Rows.{Triple, triple}
 use Rattle.rhodf.specs.Graph.{Graph}
 use Rattle.rhodf.specs.Rules.{Drawn}
 use Rattle.plans.specs.declared.Plan.{Plan}
+use Rattle.plans.specs.declared.Plan.TheVariants.{Off, Rows, Alone}
+use Rattle.plans.specs.declared.Each.{Each}
+use Rattle.plans.specs.declared.Each.TheVariants.{Once, Behind}
+use Rattle.plans.specs.declared.Once.TheVariants.{Straight, Renaming}
 
--- the shapes, by number
-abbrev pub shape_off : ℕ
-shape_off = 0
+-- the subject and, where it is known, the object of what each row gives
+abbrev pub subject_of_each : Each → ℕ
+subject_of_each (Once (Straight s p)) = s
+subject_of_each (Once (Renaming s o)) = s
+subject_of_each (Behind d) = d.s
 
-abbrev pub shape_straight : ℕ
-shape_straight = 1
+abbrev pub object_of_each : Each → ℕ
+object_of_each (Once (Straight s p)) = s
+object_of_each (Once (Renaming s o)) = o
+object_of_each (Behind d) = d.s
 
-abbrev pub shape_renaming : ℕ
-shape_renaming = 2
+-- and of all that a plan gives
+abbrev pub subject_of : Plan → ℕ
+subject_of Off = 0
+subject_of (Rows q r each) = subject_of_each each
+subject_of (Alone s p) = s
 
-abbrev pub shape_behind : ℕ
-shape_behind = 3
-
-abbrev pub shape_alone : ℕ
-shape_alone = 4
+abbrev pub object_of : Plan → ℕ
+object_of Off = 0
+object_of (Rows q r each) = object_of_each each
+object_of (Alone s p) = s
 
 -- nothing to do
 abbrev pub off_plan : Plan
-off_plan = record { shape = shape_off; q = 0; r = 0; t = 0; s = 0; p = 0; o = 0 }
+off_plan = Off
 
 -- where `on`, rows (q r z): each gives (s p z)
 abbrev pub straight_if : Bool → ℕ → ℕ → ℕ → ℕ → Plan
-straight_if on q r s p = record { shape = cond on shape_straight shape_off; q = q; r = r; t = r; s = s; p = p; o = s }
+straight_if on q r s p = cond on (Rows q r (Once (Straight s p))) Off
 
 -- rows (q r z): each gives (s z o)
 abbrev pub renaming_plan : ℕ → ℕ → ℕ → ℕ → Plan
-renaming_plan q r s o = record { shape = shape_renaming; q = q; r = r; t = r; s = s; p = r; o = o }
+renaming_plan q r s o = Rows q r (Once (Renaming s o))
 
 -- rows (q r z), and for each of them rows (z t w): each of these gives (s p w)
 abbrev pub behind_plan : ℕ → ℕ → ℕ → ℕ → ℕ → Plan
-behind_plan q r t s p = record { shape = shape_behind; q = q; r = r; t = t; s = s; p = p; o = s }
+behind_plan q r t s p = Rows q r (Behind (record { t = t; s = s; p = p }))
 
 -- where `on`, no row: it gives (s p s) by itself
 abbrev pub alone_if : Bool → ℕ → ℕ → Plan
-alone_if on s p = record { shape = cond on shape_alone shape_off; q = s; r = p; t = p; s = s; p = p; o = s }
+alone_if on s p = cond on (Alone s p) Off
 
 -- a line for each rule, of the triple (x d y): 2a, 2b, 3a, 3b, 4a, 4b, 5a, 5b
 unfoldable pub plans_of : ℕ → ℕ → ℕ → List Plan
@@ -92,21 +102,23 @@ plan_count_lem rules = cond (eqb rules reflexive_set) 18 8
 abbrev pub plan_at : List Plan → ℕ → Plan
 plan_at plans k = get_or plans k off_plan
 
--- its shape is known, and what it gives has legal terms where the rows that it meets have
+-- what it gives has legal terms where the rows that it meets have
 pub record LegalPlan (plan : Plan) : Type 0 where
-  pub known : plan.shape ≤ shape_alone
-  pub subject : is_legal_term plan.s ≡ true
-  pub object : is_legal_term plan.o ≡ true
+  pub subject : is_legal_term (subject_of plan) ≡ true
+  pub object : is_legal_term (object_of plan) ≡ true
 
--- what a row (q r z) is to give, where the And of the premises so far is c, is at most its value
-pub record Met (K : Algebra) (G : Graph) (plan : Plan) (z c : ℕ) : Type 0 where
-  pub straight : plan.shape ≡ shape_straight → Drawn (triple plan.s plan.p z) → AtMost K c (G (triple plan.s plan.p z))
-  pub renaming : plan.shape ≡ shape_renaming → Drawn (triple plan.s z plan.o) → AtMost K c (G (triple plan.s z plan.o))
-  pub behind : plan.shape ≡ shape_behind → (w : ℕ) → Drawn (triple plan.s plan.p w)
-      → AtMost K (K.meet c (G (triple z plan.t w))) (G (triple plan.s plan.p w))
+-- what a row with the object z is to give, where the And of the premises so far is c, is at most its value
+abbrev pub Met : Algebra → Graph → Each → ℕ → ℕ → Type 0
+Met K G (Once (Straight s p)) z c = Drawn (triple s p z) → AtMost K c (G (triple s p z))
+Met K G (Once (Renaming s o)) z c = Drawn (triple s z o) → AtMost K c (G (triple s z o))
+Met K G (Behind d) z c = (w : ℕ) → Drawn (triple d.s d.p w) → AtMost K (K.meet c (G (triple z d.t w))) (G (triple d.s d.p w))
 
--- in a graph, what every row that the plan meets is to give is at most its value, and so is what the plan gives alone; a is the annotation of the row that
--- the plan is for
+-- what every row that the plan meets is to give is at most its value, and so is what the plan gives alone; a is the annotation of the row that the plan is for
+abbrev pub ObeyedBy : Algebra → Graph → Plan → ℕ → Type 0
+ObeyedBy K G Off a = Unit {0}
+ObeyedBy K G (Rows q r each) a = (z : ℕ) → Met K G each z (K.meet a (G (triple q r z)))
+ObeyedBy K G (Alone s p) a = Drawn (triple s p s) → AtMost K a (G (triple s p s))
+
+-- so it is in a graph
 pub record Obeyed (K : Algebra) (G : Graph) (plan : Plan) (a : ℕ) : Type 0 where
-  pub met : (z : ℕ) → Met K G plan z (K.meet a (G (triple plan.q plan.r z)))
-  pub alone : plan.shape ≡ shape_alone → Drawn (triple plan.s plan.p plan.o) → AtMost K a (G (triple plan.s plan.p plan.o))
+  pub obeyed : ObeyedBy K G plan a

@@ -6,7 +6,7 @@ use native.Mathlib.Nat.{suc-mul}
 use native.Mathlib.Numerals.{add-one}
 use native.Mathlib.Omega.{arith}
 use lib.ListN.{length, set, get_or, take, drop, length-append, length-drop, take-append-drop}
-use lib.Seq.{paste, take_all, take_at, drop_at, length-take-le}
+use lib.Seq.{take_all, take_at, drop_at, length-take-le}
 use Rattle.ground.specs.Lists.{tab, each}
 use Rattle.ground.proofs.Each.{each_append, each-one}
 use Rattle.ground.proofs.Tab.{tab-length}
@@ -42,11 +42,6 @@ laid_none b at =
 pub laid-byte : (b c : List ℕ) (at x : ℕ) → at + 1 ≤ length b → c ≡ set b at x → Laid b c at (at + 1) (x ∷ [])
 laid-byte b c at x h e = record { bytes_are = e ∙ written_one b at x h; end_is = refl }
 
--- the first k bytes of a word
-pub laid_word : (b c word text : List ℕ) (at k : ℕ) → c ≡ paste b at word k → take k word ≡ text → length text ≡ k → Laid b c at (at + k) text
-unfolding written
-laid_word b c word text at k e t s = record { bytes_are = e ∙ rw (t, ← s) refl; end_is = rw s refl }
-
 -- a text laid at the front is the first bytes, and the rest stays
 pub laid-front : (Text : List ℕ → Type 0) (out out' text : List ℕ) (size : ℕ) → length text ≤ length out → Text text → Laid out out' 0 size text → Fronted Text out out' size
 unfolding written
@@ -69,19 +64,11 @@ module _ (word : List ℕ) (start n : ℕ) (small : n < 18446744073709551616) (s
   from_start : drop start word ≡ decimal n
   from_start = t ∙ append-nil (Fmt-decimal n) ∙ decimal-is n small
 
-  pub decimal-size : 20 - start ≡ length (decimal n)
+  decimal-size : 20 - start ≡ length (decimal n)
   decimal-size = let e = ap length (decimal-is n small) in omega (arith, s, e)
 
-  same_digits : digits ≡ decimal n
+  pub same_digits : digits ≡ decimal n
   same_digits = rw from_start (take_all (20 - start) (decimal n) (omega (arith, decimal-size)))
-
-  pub digits-long : length digits ≡ 20 - start
-  digits-long = ap length same_digits ∙ sym decimal-size
-
-  pub laid-decimal : (b c : List ℕ) (at : ℕ) → c ≡ paste b at digits (20 - start) → Laid b c at (at + (20 - start)) (decimal n)
-  laid-decimal b c at e =
-      let twice : take (20 - start) digits ≡ digits = take_all (20 - start) digits (omega (arith, digits-long)) in
-      laid_word b c digits (decimal n) at (20 - start) e (twice ∙ same_digits) (sym decimal-size)
 
 -- ---- two texts, and texts one after another
 
@@ -221,12 +208,6 @@ pub rest-long : (terms : List ℕ) → length (take (length terms - 1) (drop 1 t
 rest-long terms = ap length (rest_is terms) ∙ length-drop 1 terms
 
 -- an answer in the lanes
-pub part-is : (l : List ℕ) (from n : ℕ) → take (from + n - from) (drop from l) ≡ take n (drop from l)
-part-is l from n = let e : from + n - from ≡ n = omega arith in rw e refl
-
-pub part-long : (l : List ℕ) (from n : ℕ) → from + n ≤ length l → length (take (from + n - from) (drop from l)) ≡ n
-part-long l from n h = ap length (part-is l from n) ∙ length-take-le n (drop from l) (omega (arith, length-drop from l))
-
 module _ (terms anns : List ℕ) (sixteen : length terms ≡ 16) (eight : length anns ≡ 8) (small : get_or terms 0 0 < 65536) where
   abbrev rest : List ℕ
   rest = take (length terms - 1) (drop 1 terms)

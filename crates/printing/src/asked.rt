@@ -6,16 +6,14 @@ ghost use Rattle.printing.specs.Laid.{LaidWithin, answers_in, asked_in};
 
 use crate::lines::{put_behind_blank, put_decimal, put_line, put_line_feed, put_numbers};
 
-// Terms, each behind a blank: 6 bytes at most.
+// Terms, each behind a blank: 6 bytes at most, and not 21 as for any number (`put_numbers`), which an answer's 264 bytes count on.
 fn put_terms(out: &mut [u8], at: usize, terms: &[u16]) -> usize
     requires { at + length terms.now * 6 ≤ length out.old }
     ensures { LaidWithin out.old out.new at result (each behind_blank terms.now) (length terms.now * 6) }
 {
     let mut next = at;
-    let mut i = 0;
-    while i < terms.len() {
-        next = put_behind_blank(out, next, terms[i] as u64);
-        i += 1;
+    for term in terms {
+        next = put_behind_blank(out, next, *term as u64);
     }
     next
 }
@@ -37,15 +35,9 @@ fn put_answers(out: &mut [u8], at: usize, terms: &[u16], anns: &[u64], count: us
     ensures { LaidWithin out.old out.new at result (answers_in terms.now anns.now count) (count * 264) }
 {
     let mut next = at;
-    let mut i = 0;
-    while i < count {
-        next = put_answer(
-            out,
-            next,
-            &terms[i * 16..i * 16 + 16],
-            &anns[i * 8..i * 8 + 8],
-        );
-        i += 1;
+    let answers = terms.chunks_exact(16).zip(anns.chunks_exact(8));
+    for (bound, values) in answers.take(count) {
+        next = put_answer(out, next, bound, values);
     }
     next
 }

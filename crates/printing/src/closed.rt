@@ -32,10 +32,8 @@ fn put_rows(
     ensures { LaidWithin out.old out.new at result (row_lines (rows_of (lanes subj.now pred.now obj.now ann.now) count)) (count * 39) }
 {
     let mut next = at;
-    let mut i = 0;
-    while i < count {
+    for i in 0..count {
         next = put_row(out, next, subj[i], pred[i], obj[i], ann[i]);
-        i += 1;
     }
     next
 }

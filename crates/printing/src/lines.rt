@@ -8,15 +8,23 @@ const BLANK: u8 = 32;
 
 const LF: u8 = 10;
 
+// A text as it is.
+fn put(out: &mut [u8], at: usize, text: &[u8]) -> usize
+    requires { Fits out.old at text.now }
+    ensures { Laid out.old out.new at result text.now }
+{
+    let end = at + text.len();
+    out[at..end].copy_from_slice(text);
+    end
+}
+
 pub fn put_decimal(out: &mut [u8], at: usize, n: u64) -> usize
     requires { Fits out.old at (decimal n) }
     ensures { Laid out.old out.new at result (decimal n) }
 {
     let mut text = [0u8; 20];
     let start = itoa::write_digits(n, &mut text, 20);
-    let size = 20 - start;
-    names::texts::put(out, at, &text[start..], size);
-    at + size
+    put(out, at, &text[start..])
 }
 
 // A blank and a number.
@@ -34,10 +42,8 @@ pub fn put_numbers(out: &mut [u8], at: usize, numbers: &[u64]) -> usize
     ensures { LaidWithin out.old out.new at result (each behind_blank numbers.now) (length numbers.now * 21) }
 {
     let mut next = at;
-    let mut i = 0;
-    while i < numbers.len() {
-        next = put_behind_blank(out, next, numbers[i]);
-        i += 1;
+    for n in numbers {
+        next = put_behind_blank(out, next, *n);
     }
     next
 }
@@ -55,9 +61,8 @@ pub fn put_line(out: &mut [u8], at: usize, first: &[u8], numbers: &[u64]) -> usi
     requires { at + length first.now + length numbers.now * 21 + 1 ≤ length out.old }
     ensures { Laid out.old out.new at result (line first.now numbers.now) }
 {
-    let size = first.len();
-    names::texts::put(out, at, first, size);
-    let last = put_numbers(out, at + size, numbers);
+    let behind = put(out, at, first);
+    let last = put_numbers(out, behind, numbers);
     put_line_feed(out, last)
 }
 

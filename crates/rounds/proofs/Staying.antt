@@ -1,6 +1,6 @@
 -- A row that obeys its plans goes on obeying them while nothing that it can meet rises; and its conclusions have its
 -- subject, its object or its predicate as their subject. Assumes nothing.
-use mathlib.Core.Path.{◌≡◌, refl, subst}
+use mathlib.Core.Path.{◌≡◌, refl, sym, subst}
 use mathlib.Core.Bool.{Bool, true, false}
 use mathlib.Core.List.{List, ◌++◌}
 use mathlib.Core.Logic.{◌⊎◌, inl, inr}
@@ -18,9 +18,14 @@ use Rattle.table.specs.Rows.{Triple, triple}
 use Rattle.table.proofs.Ordering.{Tri, less, same, more, tri}
 use Rattle.rhodf.specs.Graph.{Graph, Valued, Below}
 use Rattle.plans.specs.declared.Plan.{Plan}
-use Rattle.plans.specs.Plans.{shape_off, shape_behind, straight_if, renaming_plan, behind_plan, alone_if, plans_of, reflexive_plans, plans_with, plans_for, Met, Obeyed}
+use Rattle.plans.specs.declared.Plan.TheVariants.{Rows}
+use Rattle.plans.specs.declared.Each.{Each}
+use Rattle.plans.specs.declared.Each.TheVariants.{Once, Behind}
+use Rattle.plans.specs.declared.Once.TheVariants.{Straight, Renaming}
+use Rattle.plans.specs.Plans.{subject_of, straight_if, alone_if, plans_of, reflexive_plans, plans_with, plans_for, Met, Obeyed}
 use Rattle.plans.proofs.Meeting.{met-bottom}
 use Rattle.plans.proofs.Driven.{all_front, all_behind}
+use Rattle.walks.specs.Walks.{OfPlan}
 use Rattle.rounds.specs.Due.{Typed}
 
 -- a row of t meets no row of these subjects
@@ -29,9 +34,13 @@ pub record Apart (S : ℕ → Type 0) (G : Graph) (t : Triple) : Type 0 where
   pub by_object : t.p < dom → (r w : ℕ) → 0 < G (triple t.o r w) → S t.o → ⊥
   pub behind : (z : ℕ) → 0 < G (triple t.p sp z) → Typed G z → S z → ⊥
 
+-- a term of the triple
+abbrev pub OneOf : Triple → ℕ → Type 0
+OneOf t x = (x ≡ t.s) ⊎ ((x ≡ t.o) ⊎ (x ≡ t.p))
+
 -- what a plan gives has such a subject
 abbrev pub OfTriple : Triple → Plan → Type 0
-OfTriple t plan = (plan.s ≡ t.s) ⊎ ((plan.s ≡ t.o) ⊎ (plan.s ≡ t.p))
+OfTriple t plan = (x : ℕ) → OfPlan plan x → (x ≡ subject_of plan) × OneOf t x
 
 -- what rounds need to know of plans to ask a row only when it is due
 pub record Staying (plans : Triple → List Plan) : Type 1 where
@@ -41,60 +50,52 @@ pub record Staying (plans : Triple → List Plan) : Type 1 where
       → All (λ plan. Obeyed K G plan a) (plans t) → All (λ plan. Obeyed K H plan a) (plans t)
   pub gives : (t : Triple) → All (OfTriple t) (plans t)
 
+-- of what leads behind a row with the object z: where there are rows, none of the subjects is z
+abbrev Deep : (ℕ → Type 0) → Graph → Each → ℕ → Type 0
+Deep S H (Behind d) z = (w : ℕ) → 0 < H (triple z d.t w) → S z → ⊥
+Deep S H (Once d) z = Unit {0}
+
 module _ (K : Algebra) (L : Laws K) (S : ℕ → Type 0) (G H : Graph) (v : Valued K H) (up : Below K G H) (kept : (u : Triple) → (S u.s → ⊥) → H u ≡ G u)
     (a : ℕ) (va : K.Value a) where
-  off_obeyed : (plan : Plan) → plan.shape ≡ shape_off → Obeyed K H plan a
-  off_obeyed plan e = record {
-    met = λ z. record { straight = λ f. absurd (omega (arith, e, f)); renaming = λ f. absurd (omega (arith, e, f)); behind = λ f. absurd (omega (arith, e, f)) };
-    alone = λ f. absurd (omega (arith, e, f));
-  }
-
-  plan_stays : (plan : Plan) → ((z : ℕ) → 0 < H (triple plan.q plan.r z) → S plan.q → ⊥)
-      → (plan.shape ≡ shape_behind → (z : ℕ) → 0 < H (triple plan.q plan.r z) → (w : ℕ) → 0 < H (triple z plan.t w) → S z → ⊥)
-      → Obeyed K G plan a → Obeyed K H plan a
-  plan_stays plan apart deep o = record {
-    met = λ z. go z (tri 0 (H (triple plan.q plan.r z)));
-    alone = λ f named.
-        let t = triple plan.s plan.p plan.o in
-        at_most_trans K L a (G t) (H t) (o.alone f named) (up.below t);
-  }
+  -- of one row that is met
+  met_stays : (each : Each) (z c : ℕ) → K.Value c → Deep S H each z → Met K G each z c → Met K H each z c
+  met_stays (Once (Straight s p)) z c vc deep m = λ named.
+      let t = triple s p z in
+      at_most_trans K L c (G t) (H t) (m named) (up.below t)
+  met_stays (Once (Renaming s o)) z c vc deep m = λ named.
+      let t = triple s z o in
+      at_most_trans K L c (G t) (H t) (m named) (up.below t)
+  met_stays (Behind d) z c vc deep m = λ w named.
+      let t = triple d.s d.p w in
+      go w (at_most_trans K L (K.meet c (G (triple z d.t w))) (G t) (H t) (m w named) (up.below t)) (tri 0 (H (triple z d.t w)))
     where
-      go : (z : ℕ) → Tri 0 (H (triple plan.q plan.r z)) → Met K H plan z (K.meet a (H (triple plan.q plan.r z)))
+      go : (w : ℕ) → AtMost K (K.meet c (G (triple z d.t w))) (H (triple d.s d.p w))
+          → Tri 0 (H (triple z d.t w)) → AtMost K (K.meet c (H (triple z d.t w))) (H (triple d.s d.p w))
+      go w low (less k) = rw (kept (triple z d.t w) (deep w k)) low
+      go w low (same e) = rw (← e, L.meet_bottom c vc) (bottom-at_most K L _)
+      go w low (more k) = absurd (omega arith)
+
+  rows_stay : (q r : ℕ) (each : Each) → ((z : ℕ) → 0 < H (triple q r z) → S q → ⊥) → ((z : ℕ) → 0 < H (triple q r z) → Deep S H each z)
+      → Obeyed K G (Rows q r each) a → Obeyed K H (Rows q r each) a
+  rows_stay q r each apart deep o = record { obeyed = λ z. go z (tri 0 (H (triple q r z))) }
+    where
+      go : (z : ℕ) → Tri 0 (H (triple q r z)) → Met K H each z (K.meet a (H (triple q r z)))
       go z (less h) =
-          let e : H (triple plan.q plan.r z) ≡ G (triple plan.q plan.r z) = kept (triple plan.q plan.r z) (apart z h) in
-          let c : ℕ = K.meet a (G (triple plan.q plan.r z)) in
-          let vc : K.Value c = L.meet_value a (G (triple plan.q plan.r z)) va (subst (λ (x : ℕ). K.Value x) e (v.value (triple plan.q plan.r z))) in
-          rw e (record {
-            straight = λ f named.
-                let t = triple plan.s plan.p z in
-                at_most_trans K L c (G t) (H t) ((o.met z).straight f named) (up.below t);
-            renaming = λ f named.
-                let t = triple plan.s z plan.o in
-                at_most_trans K L c (G t) (H t) ((o.met z).renaming f named) (up.below t);
-            behind = λ f w named. beyond z h f c vc w (at_most_trans K L (K.meet c (G (triple z plan.t w))) (G (triple plan.s plan.p w)) (H (triple plan.s plan.p w))
-                ((o.met z).behind f w named) (up.below (triple plan.s plan.p w))) (tri 0 (H (triple z plan.t w)));
-          })
-        where
-          beyond : (z : ℕ) → 0 < H (triple plan.q plan.r z) → plan.shape ≡ shape_behind → (c : ℕ) → K.Value c → (w : ℕ)
-              → AtMost K (K.meet c (G (triple z plan.t w))) (H (triple plan.s plan.p w))
-              → Tri 0 (H (triple z plan.t w)) → AtMost K (K.meet c (H (triple z plan.t w))) (H (triple plan.s plan.p w))
-          beyond z h f c vc w low (less k) = rw (kept (triple z plan.t w) (deep f z h w k)) low
-          beyond z h f c vc w low (same e) = rw (← e, L.meet_bottom c vc) (bottom-at_most K L _)
-          beyond z h f c vc w low (more k) = absurd (omega arith)
-      go z (same e) = rw (← e, L.meet_bottom a va) (met-bottom K L H v plan z)
+          let t = triple q r z in
+          let e : H t ≡ G t = kept t (apart z h) in
+          let vc : K.Value (K.meet a (G t)) = L.meet_value a (G t) va (subst (λ (x : ℕ). K.Value x) e (v.value t)) in
+          rw e (met_stays each z (K.meet a (G t)) vc (deep z h) (o.obeyed z))
+      go z (same e) = rw (← e, L.meet_bottom a va) (met-bottom K L H v each z)
       go z (more h) = absurd (omega arith)
 
   straight-stays : (on : Bool) (q r s p : ℕ) → (on ≡ true → (z : ℕ) → 0 < H (triple q r z) → S q → ⊥) → Obeyed K G (straight_if on q r s p) a
       → Obeyed K H (straight_if on q r s p) a
-  straight-stays true q r s p apart o = plan_stays (straight_if true q r s p) (apart refl) (λ f. absurd (omega arith)) o
-  straight-stays false q r s p apart o = off_obeyed (straight_if false q r s p) refl
+  straight-stays true q r s p apart o = rows_stay q r _ (apart refl) (λ _ _. tt) o
+  straight-stays false q r s p apart o = record { obeyed = tt }
 
   alone-stays : (on : Bool) (s p : ℕ) → Obeyed K G (alone_if on s p) a → Obeyed K H (alone_if on s p) a
-  alone-stays true s p o = record {
-    met = λ z. record { straight = λ f. absurd (omega arith); renaming = λ f. absurd (omega arith); behind = λ f. absurd (omega arith) };
-    alone = λ f named. let t = triple s p s in at_most_trans K L a (G t) (H t) (o.alone f named) (up.below t);
-  }
-  alone-stays false s p o = off_obeyed (alone_if false s p) refl
+  alone-stays true s p o = record { obeyed = λ named. let t = triple s p s in at_most_trans K L a (G t) (H t) (o.obeyed named) (up.below t) }
+  alone-stays false s p o = record { obeyed = tt }
 
   -- the ten plans of the reflexive lines
   lines_stay : (x d y : ℕ) → All (λ plan. Obeyed K G plan a) (reflexive_plans x d y) → All (λ plan. Obeyed K H plan a) (reflexive_plans x d y)
@@ -131,19 +132,19 @@ module _ (K : Algebra) (L : Laws K) (S : ℕ → Type 0) (G H : Graph) (v : Valu
   all_stay x d y apart o = (
     straight-stays (eqb d sp) y sp x sp (λ e. apart.by_object (omega (arith, eqb-true d sp e)) sp) o.0,
     (
-      plan_stays (renaming_plan d sp x y) (apart.by_predicate sp) (λ f. absurd (omega arith)) o.1.0,
+      rows_stay d sp _ (apart.by_predicate sp) (λ _ _. tt) o.1.0,
       (
         straight-stays (eqb d sc) y sc x sc (λ e. apart.by_object (omega (arith, eqb-true d sc e)) sc) o.1.1.0,
         (
           straight-stays (eqb d type) y sc x type (λ e. apart.by_object (omega (arith, eqb-true d type e)) sc) o.1.1.1.0,
           (
-            plan_stays (straight_if true d dom x type) (apart.by_predicate dom) (λ f. absurd (omega arith)) o.1.1.1.1.0,
+            rows_stay d dom _ (apart.by_predicate dom) (λ _ _. tt) o.1.1.1.1.0,
             (
-              plan_stays (straight_if true d range y type) (apart.by_predicate range) (λ f. absurd (omega arith)) o.1.1.1.1.1.0,
+              rows_stay d range _ (apart.by_predicate range) (λ _ _. tt) o.1.1.1.1.1.0,
               (
-                plan_stays (behind_plan d sp dom x type) (apart.by_predicate sp) (λ f z h w k. apart.behind z h (w, inl k)) o.1.1.1.1.1.1.0,
+                rows_stay d sp _ (apart.by_predicate sp) (λ z h w k. apart.behind z h (w, inl k)) o.1.1.1.1.1.1.0,
                 (
-                  plan_stays (behind_plan d sp range y type) (apart.by_predicate sp) (λ f z h w k. apart.behind z h (w, inr k)) o.1.1.1.1.1.1.1.0,
+                  rows_stay d sp _ (apart.by_predicate sp) (λ z h w k. apart.behind z h (w, inr k)) o.1.1.1.1.1.1.1.0,
                   tt,
                 ),
               ),
@@ -154,15 +155,55 @@ module _ (K : Algebra) (L : Laws K) (S : ℕ → Type 0) (G H : Graph) (v : Valu
     ),
   )
 
+straight-gives : (t : Triple) (on : Bool) (q r s p : ℕ) → OneOf t s → OfTriple t (straight_if on q r s p)
+straight-gives t true q r s p h = λ x e. (e, subst (OneOf t) (sym e) h)
+straight-gives t false q r s p h = λ x e. absurd e
+
+alone-gives : (t : Triple) (on : Bool) (s p : ℕ) → OneOf t s → OfTriple t (alone_if on s p)
+alone-gives t true s p h = λ x e. (e, subst (OneOf t) (sym e) h)
+alone-gives t false s p h = λ x e. absurd e
+
 all_give : (x d y : ℕ) → All (OfTriple (triple x d y)) (plans_of x d y)
 unfolding plans_of
 all_give x d y =
-    (inl refl, (inl refl, (inl refl, (inl refl, (inl refl, (inr (inl refl), (inl refl, (inr (inl refl), tt))))))))
+    let t = triple x d y in (
+      straight-gives t (eqb d sp) y sp x sp (inl refl),
+      (
+        λ v e. (e, inl e),
+        (
+          straight-gives t (eqb d sc) y sc x sc (inl refl),
+          (
+            straight-gives t (eqb d type) y sc x type (inl refl),
+            (λ v e. (e, inl e), (λ v e. (e, inr (inl e)), (λ v e. (e, inl e), (λ v e. (e, inr (inl e)), tt)))),
+          ),
+        ),
+      ),
+    )
 
 lines_give : (x d y : ℕ) → All (OfTriple (triple x d y)) (reflexive_plans x d y)
 unfolding reflexive_plans
-lines_give x d y =
-    (inr (inr refl), (inl refl, (inr (inl refl), (inl refl, (inl refl, (inl refl, (inr (inl refl), (inr (inl refl), (inr (inl refl), (inr (inl refl), tt))))))))))
+lines_give x d y = (
+  λ v e. (e, inr (inr e)),
+  (
+    of_subject (eqb d sp) sp,
+    (
+      of_object (eqb d sp) sp,
+      (
+        of_subject (eqb d dom) sp,
+        (
+          of_subject (eqb d range) sp,
+          (of_subject (eqb d sc) sc, (of_object (eqb d sc) sc, (of_object (eqb d type) sc, (of_object (eqb d dom) sc, (of_object (eqb d range) sc, tt))))),
+        ),
+      ),
+    ),
+  ),
+)
+  where
+    of_subject : (on : Bool) (p : ℕ) → OfTriple (triple x d y) (alone_if on x p)
+    of_subject on p = alone-gives (triple x d y) on x p (inl refl)
+
+    of_object : (on : Bool) (p : ℕ) → OfTriple (triple x d y) (alone_if on y p)
+    of_object on p = alone-gives (triple x d y) on y p (inr (inl refl))
 
 rhodf_staying : Staying (λ t. plans_of t.s t.p t.o)
 rhodf_staying = record {

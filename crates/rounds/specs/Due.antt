@@ -1,9 +1,23 @@
 -- Scaffolding, cited by inner contracts alone: which rows can meet one that rose, by the sets of the subjects that did.
-use Rattle.std.specs.Prelude.{◌≡◌, Bool, true, false, List, ◌⊎◌, ℕ, ◌+◌, ◌≤◌, ◌<◌, length, get_or}
+use Rattle.std.specs.Prelude.{◌≡◌, Bool, true, false, List, ◌⊎◌, ℕ, ◌+◌, ◌≤◌, ◌<◌, Option, Some, None, get_or}
 use Rattle.term.specs.Term.{sp, dom, range}
 use Rattle.table.specs.Rows.{Triple, triple, Lanes, rows_of}
 use Rattle.rhodf.specs.Graph.{Graph, graph_of}
-use Rattle.termset.specs.Termset.{words, holds, Among}
+use Rattle.termset.specs.Termset.{holds, Among}
+use Rattle.rounds.specs.declared.Turn.{Turn}
+use Rattle.rounds.specs.declared.Turn.TheVariants.{Down, Up, One}
+
+-- the turns of a round by number: down and up by the set of what is due, and up by one subject
+abbrev pub number_of : Turn → ℕ
+number_of Down = 0
+number_of Up = 1
+number_of (One one) = 2
+
+-- the one
+abbrev pub one_of : Turn → ℕ
+one_of (One one) = one
+one_of Down = 0
+one_of Up = 0
 
 -- of a row of t: its own subject, its predicate and, where it is of sp, sc or type, its object are not in the set
 pub record Still (set : List ℕ) (t : Triple) : Type 0 where
@@ -49,11 +63,6 @@ pub record RoseAt (told changed : Bool) (s t : ℕ) (r : Bool) : Type 0 where
   pub keeps : told ≡ true → r ≡ true
   pub tells : changed ≡ true → s ≡ t → r ≡ true
 
--- the two sets are sets
-pub record Sets (due rose : List ℕ) : Type 0 where
-  pub due_long : length due ≡ words
-  pub rose_long : length rose ≡ words
-
 -- both sets have grown, and x, y and d are in `rose` where they rose; where nothing did it is as it was
 pub record Marked (changed other third : Bool) (x y d : ℕ) (due due' rose rose' : List ℕ) : Type 0 where
   pub due_more : Among due due'
@@ -67,29 +76,52 @@ pub record Marked (changed other third : Bool) (x y d : ℕ) (due due' rose rose
 pub record Leads (set : List ℕ) (d y : ℕ) (r : Bool) : Type 0 where
   pub leads : d ≡ sp → holds set y ≡ true → r ≡ true
 
-pub record RowsOfThree (subj pred obj : List ℕ) (n : ℕ) : Type 0 where
-  pub in_subj : n ≤ length subj
-  pub in_pred : n ≤ length pred
-  pub in_obj : n ≤ length obj
+-- P is so of the rows from `from` up to n
+abbrev pub EachFrom : (ℕ → Type 0) → ℕ → ℕ → Type 0
+EachFrom P from n = (j : ℕ) → from ≤ j → j < n → P j
 
--- r is `from` or behind it, and the rows from there up to it are not due
-pub record NextDue (subj pred obj : List ℕ) (from : ℕ) (due : List ℕ) (r : ℕ) : Type 0 where
-  pub reached : from ≤ r
-  pub none : (j : ℕ) → from ≤ j → j < r → Still due (triple (get_or subj j 0) (get_or pred j 0) (get_or obj j 0))
+-- row `at` is one of them, and P is so of those before it
+pub record NextAt (P : ℕ → Type 0) (from n at : ℕ) : Type 0 where
+  pub reached : from ≤ at
+  pub there : at < n
+  pub before : EachFrom P from at
 
--- the same of rows that have not this one
-pub record NextOf (subj pred obj : List ℕ) (from one r : ℕ) : Type 0 where
+-- the next row of them, or P is so of all
+abbrev pub Next : (ℕ → Type 0) → ℕ → ℕ → Option ℕ → Type 0
+Next P from n None = EachFrom P from n
+Next P from n (Some at) = NextAt P from n at
+
+abbrev pub StillAt : List ℕ → List ℕ → List ℕ → List ℕ → ℕ → Type 0
+StillAt subj pred obj due j = Still due (triple (get_or subj j 0) (get_or pred j 0) (get_or obj j 0))
+
+abbrev pub AwayAt : List ℕ → List ℕ → List ℕ → ℕ → ℕ → Type 0
+AwayAt subj pred obj one j = Away one (triple (get_or subj j 0) (get_or pred j 0) (get_or obj j 0))
+
+-- the next row that is due, and the next that has this one
+abbrev pub NextDue : List ℕ → List ℕ → List ℕ → ℕ → ℕ → List ℕ → Option ℕ → Type 0
+NextDue subj pred obj from n due r = Next (StillAt subj pred obj due) from n r
+
+abbrev pub NextOf : List ℕ → List ℕ → List ℕ → ℕ → ℕ → ℕ → Option ℕ → Type 0
+NextOf subj pred obj from n one r = Next (AwayAt subj pred obj one) from n r
+
+-- r is `from` or behind it, and the rows from there up to it have not this one
+pub record PastOf (subj pred obj : List ℕ) (from one r : ℕ) : Type 0 where
   pub reached : from ≤ r
-  pub none : (j : ℕ) → from ≤ j → j < r → Away one (triple (get_or subj j 0) (get_or pred j 0) (get_or obj j 0))
+  pub none : EachFrom (AwayAt subj pred obj one) from r
 
 -- where r is false, no row from `at` up to i has this one
 pub record BlockAway (subj pred obj : List ℕ) (at i one : ℕ) (r : Bool) : Type 0 where
   pub none : r ≡ false → (j : ℕ) → at ≤ j → j < i → Away one (triple (get_or subj j 0) (get_or pred j 0) (get_or obj j 0))
 
--- r is `from` or before it, and the rows from it up to there are not due
-pub record LastDue (subj pred obj : List ℕ) (from : ℕ) (due : List ℕ) (r : ℕ) : Type 0 where
-  pub reached : r ≤ from
-  pub none : (j : ℕ) → r ≤ j → j < from → Still due (triple (get_or subj j 0) (get_or pred j 0) (get_or obj j 0))
+-- row `at` is before `from`, and the rows between are not due
+pub record LastAt (subj pred obj : List ℕ) (from : ℕ) (due : List ℕ) (at : ℕ) : Type 0 where
+  pub reached : at < from
+  pub behind : (j : ℕ) → at < j → j < from → StillAt subj pred obj due j
+
+-- the last row before `from` that is due
+abbrev pub LastDue : List ℕ → List ℕ → List ℕ → ℕ → List ℕ → Option ℕ → Type 0
+LastDue subj pred obj from due None = EachFrom (StillAt subj pred obj due) 0 from
+LastDue subj pred obj from due (Some at) = LastAt subj pred obj from due at
 
 -- row j is to come, where a round that goes up (its turn is not 0) has come to row i, and one that goes down to the row before it
 pub record ToCome (turn i j : ℕ) : Type 0 where
@@ -105,10 +137,20 @@ pub record NotBefore (turn at j : ℕ) : Type 0 where
 pub record Seeking (turn n from : ℕ) : Type 0 where
   pub down : turn ≡ 0 → from ≤ n
 
--- of the rows that are to come, those before r are not due; r is not among the rows where none is
-pub record Sought (subj pred obj : List ℕ) (turn one n from : ℕ) (due : List ℕ) (r : ℕ) : Type 0 where
-  pub reached : r < n → ToCome turn from r
-  pub rest : (j : ℕ) → j < n → ToCome turn from j → ((r < n) × NotBefore turn r j) ⊎ Idle turn one due (triple (get_or subj j 0) (get_or pred j 0) (get_or obj j 0))
+-- row j is not due in the round
+abbrev pub IdleAt : List ℕ → List ℕ → List ℕ → ℕ → ℕ → List ℕ → ℕ → Type 0
+IdleAt subj pred obj turn one due j = Idle turn one due (triple (get_or subj j 0) (get_or pred j 0) (get_or obj j 0))
+
+-- row `at` is one of those that are to come, and those before it are not due
+pub record SoughtAt (subj pred obj : List ℕ) (turn one n from : ℕ) (due : List ℕ) (at : ℕ) : Type 0 where
+  pub there : at < n
+  pub reached : ToCome turn from at
+  pub rest : (j : ℕ) → j < n → ToCome turn from j → NotBefore turn at j ⊎ IdleAt subj pred obj turn one due j
+
+-- the next row to come that may be due
+abbrev pub Sought : List ℕ → List ℕ → List ℕ → ℕ → ℕ → ℕ → ℕ → List ℕ → Option ℕ → Type 0
+Sought subj pred obj turn one n from due None = (j : ℕ) → j < n → ToCome turn from j → IdleAt subj pred obj turn one due j
+Sought subj pred obj turn one n from due (Some at) = SoughtAt subj pred obj turn one n from due at
 
 pub record First (turn n r : ℕ) : Type 0 where
   pub up : 0 < turn → r ≡ 0
@@ -133,20 +175,27 @@ pub record Untyped (l : Lanes) (n one : ℕ) (r : Bool) : Type 0 where
 -- the rows that can meet one of this subject are due in a round of the turn r: by the set, which has it and each D with (D sp `one`),
 -- or by itself
 pub record Aimed (l : Lanes) (n one : ℕ) (due : List ℕ) (r : ℕ) : Type 0 where
-  pub long : length due ≡ words
   pub there : r ≤ 1 → holds due one ≡ true
   pub below : r ≤ 1 → (j : ℕ) → j < n → get_or l.pred j 0 ≡ sp → get_or l.obj j 0 ≡ one → holds due (get_or l.subj j 0) ≡ true
   pub alone : 1 < r → Typed (graph_of (rows_of l n)) one → ⊥
 
+abbrev pub AimedAt : Lanes → ℕ → ℕ → List ℕ → Turn → Type 0
+AimedAt l n one due turn = Aimed l n one due (number_of turn) × (1 < number_of turn → one_of turn ≡ one)
+
 -- row `at` is there, and its subject is in the set
+pub record WaitsAt (subj : List ℕ) (n : ℕ) (rose : List ℕ) (at : ℕ) : Type 0 where
+  pub there : at < n
+  pub waits : holds rose (get_or subj at 0) ≡ true
+
 pub record Fresh (subj : List ℕ) (n at : ℕ) (rose : List ℕ) (r : Bool) : Type 0 where
-  pub there : r ≡ true → (at < n) × (holds rose (get_or subj at 0) ≡ true)
+  pub fresh : r ≡ true → WaitsAt subj n rose at
 
--- row r, where it is there, has a subject of the set
-pub record Waits (subj : List ℕ) (n : ℕ) (rose : List ℕ) (r : ℕ) : Type 0 where
-  pub some : r < n → holds rose (get_or subj r 0) ≡ true
+-- a row whose subject is in the set
+abbrev pub Waits : List ℕ → ℕ → List ℕ → Option ℕ → Type 0
+Waits subj n rose None = Unit {0}
+Waits subj n rose (Some at) = WaitsAt subj n rose at
 
--- and where it is not, no row has
-pub record Chosen (subj : List ℕ) (n : ℕ) (rose : List ℕ) (r : ℕ) : Type 0 where
-  pub some : r < n → holds rose (get_or subj r 0) ≡ true
-  pub none : n ≤ r → (j : ℕ) → j < n → holds rose (get_or subj j 0) ≡ false
+-- and where none is given, no row has one
+abbrev pub Chosen : List ℕ → ℕ → List ℕ → Option ℕ → Type 0
+Chosen subj n rose None = (j : ℕ) → j < n → holds rose (get_or subj j 0) ≡ false
+Chosen subj n rose (Some at) = WaitsAt subj n rose at

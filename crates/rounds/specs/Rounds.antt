@@ -1,11 +1,14 @@
 -- Scaffolding, cited by inner contracts alone: what a row, a round, and rounds until nothing waits promise.
-use Rattle.std.specs.Prelude.{◌≡◌, Bool, true, false, List, ℕ, ◌<◌}
-use denote.Triple.Both.{Both}
+use Rattle.std.specs.Prelude.{◌≡◌, Bool, true, false, List, ℕ, ◌<◌, Result, Ok, Err}
 use Rattle.ground.specs.Lists.{All}
 use Rattle.annotation.specs.Kinds.{algebra}
+use Rattle.annotation.specs.Numbered.{kind_number}
+use Rattle.table.specs.declared.lent.Table.{Table}
+use Rattle.table.specs.declared.put.Done.{Done}
+use Rattle.table.specs.declared.put.Full.{Full}
 use Rattle.table.specs.Rows.{Triple, triple, Lanes, row_at, rows_of}
 use Rattle.table.specs.Sound.{Sound}
-use Rattle.table.specs.Lent.{Lane}
+use Rattle.table.specs.Lent.{lanes_in}
 use Rattle.rhodf.specs.Graph.{graph_of}
 use Rattle.rhodf.specs.Rules.{Rules}
 use Rattle.rhodf.specs.Closure.{Closed}
@@ -13,7 +16,10 @@ use Rattle.plans.specs.declared.Plan.{Plan}
 use Rattle.plans.specs.Plans.{Obeyed}
 use Rattle.termset.specs.Termset.{holds, Among}
 use Rattle.walks.specs.Rising.{Risen, Drew}
-use Rattle.rounds.specs.Due.{Idle, Quiet, OfRow, Sets}
+use Rattle.rounds.specs.declared.RowDone.{RowDone}
+use Rattle.rounds.specs.declared.Sets.{Sets}
+use Rattle.rounds.specs.declared.Turn.{Turn}
+use Rattle.rounds.specs.Due.{number_of, one_of, Idle, Quiet, OfRow}
 
 -- row i obeys its plans in the table's graph
 abbrev pub triple_at : Lanes → ℕ → Triple
@@ -45,16 +51,14 @@ pub record RoundDue (plans : Triple → List Plan) (turn one kind : ℕ) (l : La
 
 -- every row obeys its plans, unless it meets what waits: what waited before, and what rose; where nothing rose, the set is as it was
 pub record RoundDrawn (R : Rules) (plans : Triple → List Plan) (kind : ℕ) (l : Lanes) (n : ℕ) (m : Lanes) (full changed : Bool) (n' : ℕ)
-    (due' rose rose' : List ℕ) : Type 0 where
+    (rose rose' : List ℕ) : Type 0 where
   pub risen : Risen R kind l n m full changed n'
-  pub sets : Sets due' rose'
   pub same : changed ≡ false → rose' ≡ rose
   pub settled : full ≡ false → (j : ℕ) → j < n' → Quiet rose' (graph_of (rows_of m n')) (triple_at m j) → RowObeyed plans kind m n' j
 
 -- every row obeys its plans, unless it meets what waits
-pub record Waiting (plans : Triple → List Plan) (kind : ℕ) (l : Lanes) (n : ℕ) (due rose : List ℕ) : Type 0 where
+pub record Waiting (plans : Triple → List Plan) (kind : ℕ) (l : Lanes) (n : ℕ) (rose : List ℕ) : Type 0 where
   pub sound : Sound kind l n
-  pub sets : Sets due rose
   pub settled : (j : ℕ) → j < n → Quiet rose (graph_of (rows_of l n)) (triple_at l j) → RowObeyed plans kind l n j
 
 -- nothing waits, or what follows does not fit
@@ -63,11 +67,34 @@ pub record Saturated (R : Rules) (kind : ℕ) (l : Lanes) (n : ℕ) (m : Lanes) 
   pub risen : Risen R kind l n m full changed n'
   pub closed : full ≡ false → Closed (algebra kind) R (graph_of (rows_of m n'))
 
--- a row asked and a round drawn, of sets as they are lent: where the call begins, and where it ends
-abbrev pub RowAskedIn : Rules → (Triple → List Plan) → ℕ → Lanes → ℕ → ℕ → Lanes → Bool → Bool → ℕ → Both Lane Lane → Both Lane Lane → Type 0
-RowAskedIn R plans kind l n i m full changed n' due rose =
-    RowAsked R plans kind l n i m full changed n' due.entry.now due.exit.now rose.entry.now rose.exit.now
+-- ---- the same of a table that is lent to be changed: t where the call begins, and u where it ends
 
-abbrev pub RoundDrawnIn : Rules → (Triple → List Plan) → ℕ → Lanes → ℕ → Lanes → Bool → Bool → ℕ → Both Lane Lane → Both Lane Lane → Type 0
-RoundDrawnIn R plans kind l n m full changed n' due rose =
-    RoundDrawn R plans kind l n m full changed n' due.exit.now rose.entry.now rose.exit.now
+abbrev pub RowIn : ℕ → Table → Type 0
+RowIn i t = RowOfTable (kind_number t.kind) (lanes_in t) t.count i
+
+-- a row found no room; what the sets then hold does not matter
+abbrev pub Overfull : Rules → Table → Table → Type 0
+Overfull R t u = (changed : Bool) × Risen R (kind_number t.kind) (lanes_in t) t.count (lanes_in u) true changed u.count
+
+abbrev pub RowDrawnIn : Rules → (Triple → List Plan) → ℕ → Table → Table → Result RowDone Full → Type 0
+RowDrawnIn R plans i t u (Ok d) = RowDrawn R plans (kind_number t.kind) (lanes_in t) t.count i (lanes_in u) false d.changed d.other d.third u.count
+RowDrawnIn R plans i t u (Err e) = Overfull R t u
+
+-- of sets s where the call begins, and v where it ends
+abbrev pub RowAskedIn : Rules → (Triple → List Plan) → ℕ → Table → Table → Sets → Sets → Result Done Full → Type 0
+RowAskedIn R plans i t u s v (Ok d) = RowAsked R plans (kind_number t.kind) (lanes_in t) t.count i (lanes_in u) false d.changed u.count s.due v.due s.rose v.rose
+RowAskedIn R plans i t u s v (Err e) = Overfull R t u
+
+abbrev pub RoundDueIn : (Triple → List Plan) → Turn → Table → Sets → Type 0
+RoundDueIn plans turn t s = RoundDue plans (number_of turn) (one_of turn) (kind_number t.kind) (lanes_in t) t.count s.due s.rose
+
+abbrev pub RoundDrawnIn : Rules → (Triple → List Plan) → Table → Table → Sets → Sets → Result Done Full → Type 0
+RoundDrawnIn R plans t u s v (Ok d) = RoundDrawn R plans (kind_number t.kind) (lanes_in t) t.count (lanes_in u) false d.changed u.count s.rose v.rose
+RoundDrawnIn R plans t u s v (Err e) = Overfull R t u
+
+abbrev pub WaitingIn : (Triple → List Plan) → Table → Sets → Type 0
+WaitingIn plans t s = Waiting plans (kind_number t.kind) (lanes_in t) t.count s.rose
+
+abbrev pub SaturatedIn : {A : Type 0} → Rules → Table → Table → Result A Full → Type 0
+SaturatedIn R t u (Ok x) = Saturated R (kind_number t.kind) (lanes_in t) t.count (lanes_in u) false u.count
+SaturatedIn R t u (Err e) = Saturated R (kind_number t.kind) (lanes_in t) t.count (lanes_in u) true u.count

@@ -1,2 +1,3 @@
--- Laws of the check of a rule set.
+-- Laws of the check of a rule set, and of the rule sets that the code has.
 pub mod Judged
+pub mod Known

@@ -1,2 +1,3 @@
 -- The definition that the contracts cite.
 pub mod RuleSet
+pub mod Numbered

@@ -1,26 +1,40 @@
-// Rule sets, by number: 1, the rules of rho-df, and 2, these with the reflexive ones (C-23). Which rules they have stands in `rhodf`.
+// Rule sets: the rules of rho-df, and these with the reflexive ones (C-23). Which rules they have stands in `rhodf`.
 // Refused here: a number that is no rule set (36).
 #![tactic(auto)]
 
 ghost use Rattle.std.specs.Prelude.{◌≡◌};
-ghost use Rattle.term.specs.Refusal.{first};
-ghost use Rattle.ruleset.specs.RuleSet.{rule_set_checks};
+ghost use Rattle.ruleset.specs.Numbered.{set_number, Numbers};
 
-pub const BASIC: u8 = 1;
+use term::Refusal;
 
-pub const REFLEXIVE: u8 = 2;
+#[derive(Clone, Copy, Debug, PartialEq, Eq)]
+pub enum RuleSet {
+    Basic,
+    Reflexive,
+}
 
-pub const WRONG_RULE_SET: u8 = 36;
+impl TryFrom<u8> for RuleSet {
+    type Error = Refusal;
 
-// The refusal of a rule set, 0 where there is such a set.
-pub fn rule_set_refusal(rules: u8) -> u8
-    ensures { result ≡ (first (rule_set_checks rules 0)).number }
-{
-    if rules < BASIC {
-        return WRONG_RULE_SET;
+    ghost try_from_gives = { Numbers };
+
+    fn try_from(number: u8) -> Result<RuleSet, Refusal> {
+        match number {
+            1 => Ok(RuleSet::Basic),
+            2 => Ok(RuleSet::Reflexive),
+            _ => Err(Refusal::WrongRuleSet),
+        }
     }
-    if REFLEXIVE < rules {
-        return WRONG_RULE_SET;
+}
+
+impl RuleSet {
+    // The number that heads of books have for it.
+    pub fn number(self) -> u8
+        ensures { result ≡ set_number self }
+    {
+        match self {
+            RuleSet::Basic => 1,
+            RuleSet::Reflexive => 2,
+        }
     }
-    0
 }

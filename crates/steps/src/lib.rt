@@ -1,10 +1,8 @@
-// A step list: a lent record laid as numbers and fetched back, which steps and which lists are legal (23), and the taking of a record.
+// A step list: which steps and which lists are legal (23), and the taking of a lent record.
 #![tactic(auto)]
 
-mod lane;
 mod legal;
 mod take;
 
-pub use lane::{Numbers, STEP_WIDTH, step_at};
 pub use legal::check_steps;
 pub use take::take_step;

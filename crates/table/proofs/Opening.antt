@@ -1,31 +1,13 @@
--- A lane with room made in it, and a lane zeroed: the laws that their loops turn on. Assumes nothing.
-use mathlib.Core.Path.{◌≡◌, refl, sym, ap, ◌∙◌}
-use mathlib.Core.List.{List, ◌∷◌, ◌++◌, append-nil}
-use Prim.Native.Nat.{ℕ, zero, suc, ◌+◌, ◌-◌, ◌≤◌, ◌<◌}
+-- A lane with room made in it, and what stands in it. Assumes nothing.
+use mathlib.Core.Path.{◌≡◌, sym, ap, ◌∙◌}
+use mathlib.Core.List.{List, ◌∷◌, ◌++◌, append_assoc}
+use Prim.Native.Nat.{ℕ, suc, ◌+◌, ◌-◌, ◌≤◌, ◌<◌}
 use native.Mathlib.Numerals.{add-one}
 use native.Mathlib.Nat.{add-suc}
 use native.Mathlib.Omega.{arith}
-use borrow.Author.Fill.{fill_more}
-use lib.ListN.{length, get_or, take, drop, set, replicate, length-append, length-take, length-drop, get_or-append}
-use lib.Seq.{drop-length, set_at, get_or_at, take-suc, drop-cons, append_snoc, split_at, length-take-le, get_or-append-add, get_or-take, get_or-drop}
+use lib.ListN.{length, get_or, take, drop, set, length-append, length-take, length-drop, get_or-append}
+use lib.Seq.{paste, set_at, get_or_at, take-suc, length-take-le, get_or-append-add, get_or-take, get_or-drop}
 use Rattle.table.specs.Putting.{opened}
-
-pub opened-start : (n : ℕ) (l : List ℕ) → n < length l → opened n n (get_or l n 0) l ≡ l
-unfolding opened
-opened-start n l h =
-    let e : n - n ≡ 0 = omega arith in
-    rw (e, add-one n) (sym (split_at l n 0 h))
-
-pub opened-set : (at n v w : ℕ) (l : List ℕ) → at ≤ length l → set (opened at n v l) at w ≡ opened at n w l
-unfolding opened
-opened-set at n v w l h = set_at (take at l) v (take (n - at) (drop at l) ++ drop (n + 1) l) w at (length-take-le at l h)
-
-pub opened-down : (i n : ℕ) (l : List ℕ) → i < n → n < length l → opened (suc i) n (get_or l i 0) l ≡ opened i n (get_or l i 0) l
-unfolding opened
-opened-down i n l h k =
-    let il : i < length l = omega arith in
-    let e : n - i ≡ suc (n - suc i) = omega arith in
-    rw (take-suc l i 0 il, append_snoc, e, drop-cons l i 0 il) refl
 
 module _ (at n v : ℕ) (l : List ℕ) (ha : at ≤ n) (hn : n < length l) where
   long-front : length (take at l) ≡ at
@@ -72,24 +54,12 @@ module _ (at n v : ℕ) (l : List ℕ) (ha : at ≤ n) (hn : n < length l) where
       ∙ get_or-drop (n + 1) l j 0
       ∙ ap (λ (i : ℕ). get_or l i 0) e'
 
--- a turn of the loop that makes room, and its end
-pub shift_step : (lane l : List ℕ) (i n : ℕ) → 0 < i → i ≤ n → n < length l → lane ≡ opened i n (get_or l i 0) l
-    → set lane i (get_or lane (i - 1) 0) ≡ opened (i - 1) n (get_or l (i - 1) 0) l
-shift_step lane l zero n h g k e = absurd (omega arith)
-shift_step lane l (suc j) n h g k e =
-    let d : suc j - 1 ≡ j = omega arith in
-    rw (e, d, opened-before (suc j) n (get_or l (suc j) 0) l g k j (omega arith))
-    (opened-set (suc j) n (get_or l (suc j) 0) (get_or l j 0) l (omega arith) ∙ opened-down j n l (omega arith) k)
-
-pub shift_end : (lane l : List ℕ) (i at n v : ℕ) → i ≡ at → at ≤ n → n < length l → lane ≡ opened i n (get_or l i 0) l
-    → set lane at v ≡ opened at n v l
-shift_end lane l i at n v p h k e = rw (e, p) (opened-set at n (get_or l at 0) v l (omega arith))
-
--- a lane zeroed from the front: a turn of the loop, and its end
-pub zero-step : (lane l : List ℕ) (i : ℕ) → i < length l → lane ≡ replicate i 0 ++ drop i l → set lane i 0 ≡ replicate (i + 1) 0 ++ drop (i + 1) l
-zero-step lane l i h e = rw e (fill_more i 0 l h)
-
-pub zero-end : (lane l : List ℕ) (i : ℕ) → length l ≤ i → i ≤ length l → lane ≡ replicate i 0 ++ drop i l → lane ≡ replicate (length l) 0
-zero-end lane l i h g e =
-    let ei : i ≡ length l = omega arith in
-    e ∙ rw (ei, drop-length l) (append-nil {A = ℕ} (replicate (length l) 0))
+-- the rest moved up by one, and v in its place
+pub opened_by-copy : {A : Type 0} (at n : ℕ) (v : A) (l : List A) → at ≤ n → n < length l → set (paste l (at + 1) (drop at l) (n - at)) at v ≡ opened at n v l
+unfolding opened
+opened_by-copy at n v l h k =
+    let d : ℕ = n - at in
+    let i : at < length l = omega arith in
+    let e : at + 1 + d ≡ n + 1 = omega arith in
+    rw (e, add-one at, take-suc l at v i, append_assoc, append_assoc)
+    (set_at (take at l) (get_or l at v) (take d (drop at l) ++ drop (n + 1) l) v at (length-take-le at l (omega arith)))

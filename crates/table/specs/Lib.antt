@@ -8,3 +8,4 @@ pub mod Places
 pub mod Putting
 pub mod Examples
 pub mod Lent
+pub mod Puts

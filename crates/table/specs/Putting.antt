@@ -7,7 +7,7 @@ use Rattle.table.specs.Places.{Placed}
 use Rattle.table.specs.Adding.{rows_with}
 
 -- a lane with room made at `at` for v, where n elements count: the rest moves up by one, over element n
-unfoldable pub opened : ℕ → ℕ → ℕ → List ℕ → List ℕ
+unfoldable pub opened : {A : Type 0} → ℕ → ℕ → A → List A → List A
 opened at n v l = take at l ++ v ∷ (take (n - at) (drop at l) ++ drop (n + 1) l)
 
 -- a is joined to the annotation at `at`; r says whether that changed it

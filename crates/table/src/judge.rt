@@ -1,98 +1,87 @@
-// The refusals of a triple, of a row, of all rows, and of the lanes.
+// What is refused of a triple, of a row, of all rows, and of the lanes.
 ghost use Rattle.std.specs.Prelude.{◌≡◌};
 ghost use Rattle.term.specs.Refusal.{first};
-ghost use Rattle.table.specs.Rows.{lanes, row};
-ghost use Rattle.table.specs.Checks.{triple_checks, row_checks, rows_checks, is_not_above, is_unfit};
+ghost use Rattle.term.specs.Refused.{number_in, verdict_in};
+ghost use Rattle.annotation.specs.Numbered.{kind_number};
+ghost use Rattle.table.specs.Rows.{row};
+ghost use Rattle.table.specs.Lent.{lanes_seen};
+ghost use Rattle.table.specs.Checks.{Checking, triple_checks, row_checks, rows_checks, is_not_above, is_unfit};
 ghost use Rattle.table.specs.Places.{Within, RowWithin, RowsWithin};
 
-use crate::rows::key_at;
-use term::Verdict;
-
-pub const NOT_ABOVE: u8 = 15;
+use crate::lent::{Row, Rows};
+use annotation::Kind;
+use term::{Refusal, Refused, check_predicate, check_term};
 
 pub const MOST_ROWS: usize = 1024;
 
-// The refusal of a triple with its annotation, 0 where it is legal.
-pub fn triple_refusal(kind: u8, s: u16, p: u16, o: u16, a: u64) -> u8
-    ensures { result ≡ (first (triple_checks kind (row s p o a) 0)).number }
-{
-    if term::term_refusal(s) > 0 {
-        return term::ILLEGAL_TERM;
+impl Row {
+    // Whether the triple and its annotation are legal.
+    pub fn check(self, kind: Kind) -> Result<(), Refusal>
+        ensures { number_in result ≡ (first (triple_checks (kind_number kind) (row self.s self.p self.o self.a) 0)).number }
+    {
+        check_term(self.s)?;
+        check_term(self.o)?;
+        check_predicate(self.p)?;
+        kind.check(self.a)
     }
-    if term::term_refusal(o) > 0 {
-        return term::ILLEGAL_TERM;
-    }
-    let predicate = term::predicate_refusal(p);
-    if predicate > 0 {
-        return predicate;
-    }
-    annotation::annotation_refusal(kind, a)
 }
 
-// Whether row i is not above the one before.
-fn not_above(subj: &[u16], pred: &[u16], obj: &[u16], i: usize) -> bool
-    requires { Within subj.now pred.now obj.now i }
-    ensures { result ≡ is_not_above subj.now pred.now obj.now i }
-{
-    if i == 0 {
-        return false;
+impl Rows<'_> {
+    // Whether row i is not above the one before.
+    fn not_above(&self, i: usize) -> bool
+        requires { Within self.now.subj.now self.now.pred.now self.now.obj.now i }
+        ensures { result ≡ is_not_above self.now.subj.now self.now.pred.now self.now.obj.now i }
+    {
+        0 < i && self.key_at(i) <= self.key_at(i - 1)
     }
-    key_at(subj, pred, obj, i) <= key_at(subj, pred, obj, i - 1)
-}
 
-// The refusal of row i, 0 where it is legal and above the one before.
-fn row_refusal(kind: u8, subj: &[u16], pred: &[u16], obj: &[u16], ann: &[u64], i: usize) -> u8
-    requires { RowWithin (lanes subj.now pred.now obj.now ann.now) i }
-    ensures { result ≡ (first (row_checks kind (lanes subj.now pred.now obj.now ann.now) i)).number }
-{
-    let number = triple_refusal(kind, subj[i], pred[i], obj[i], ann[i]);
-    if number > 0 {
-        return number;
-    }
-    if not_above(subj, pred, obj, i) {
-        return NOT_ABOVE;
-    }
-    0
-}
-
-// The first refusal among the first count rows, and its row.
-pub fn rows_verdict(
-    kind: u8,
-    subj: &[u16],
-    pred: &[u16],
-    obj: &[u16],
-    ann: &[u64],
-    count: usize,
-) -> Verdict
-    requires { RowsWithin (lanes subj.now pred.now obj.now ann.now) count }
-    ensures { result ≡ first (rows_checks kind (lanes subj.now pred.now obj.now ann.now) 0 count) }
-{
-    let mut i = 0;
-    while i < count {
-        let number = row_refusal(kind, subj, pred, obj, ann, i);
-        if number > 0 {
-            return Verdict { number, place: i };
+    // Whether row i is legal and above the one before.
+    fn check_row(&self, kind: Kind, i: usize) -> Result<(), Refusal>
+        requires { RowWithin (lanes_seen self.now) i }
+        ensures { number_in result ≡ (first (row_checks (kind_number kind) (lanes_seen self.now) i)).number }
+    {
+        self.row(i).check(kind)?;
+        if self.not_above(i) {
+            return Err(Refusal::NotAbove);
         }
-        i += 1;
+        Ok(())
     }
-    Verdict {
-        number: 0,
-        place: 0,
-    }
-}
 
-// Whether the lanes are unequal or too long.
-pub fn unfit(subj: &[u16], pred: &[u16], obj: &[u16], ann: &[u64]) -> bool
-    ensures { result ≡ is_unfit (lanes subj.now pred.now obj.now ann.now) }
-{
-    if pred.len() != subj.len() {
-        return true;
+    // The first row that is refused.
+    fn check_rows(&self, kind: Kind) -> Result<(), Refused>
+        requires { RowsWithin (lanes_seen self.now) self.now.count }
+        ensures { verdict_in result ≡ first (rows_checks (kind_number kind) (lanes_seen self.now) 0 self.now.count) }
+    {
+        for i in 0..self.count {
+            match self.check_row(kind, i) {
+                Ok(()) => {}
+                Err(e) => return Err(e.at(i)),
+            }
+        }
+        Ok(())
     }
-    if obj.len() != subj.len() {
-        return true;
+
+    // Whether the lanes are unequal or too long.
+    pub fn is_unfit(&self) -> bool
+        ensures { result ≡ is_unfit (lanes_seen self.now) }
+    {
+        let size = self.subj.len();
+        self.pred.len() != size
+            || self.obj.len() != size
+            || self.ann.len() != size
+            || MOST_ROWS < size
     }
-    if ann.len() != subj.len() {
-        return true;
+
+    // The table check of a kind that there is.
+    pub fn check(&self, kind: Kind) -> Result<(), Refused>
+        ensures { Checking (kind_number kind) (lanes_seen self.now) self.now.count (verdict_in result) }
+    {
+        if self.is_unfit() {
+            return Err(Refusal::LanesUnfit.at(0));
+        }
+        if self.subj.len() < self.count {
+            return Err(Refusal::CountPastLanes.at(0));
+        }
+        self.check_rows(kind)
     }
-    MOST_ROWS < subj.len()
 }

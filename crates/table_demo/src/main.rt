@@ -7,13 +7,16 @@ use trackvesper::{add, check};
 // Lamp 10 is of class 11 in 2000 to 2002, and again in 2005 to 2007 (base year 2000): two runs, never one.
 // Class 11 lies within 13, and within 12: the rows stay in order.
 // Then what is refused: no room, 65535 as a term, a blank as predicate, bottom.
-const SUBJ: [u16; 8] = [10, 10, 11, 11, 11, 65535, 10, 10];
-
-const PRED: [u16; 8] = [2, 2, 1, 1, 1, 2, 16384, 2];
-
-const OBJ: [u16; 8] = [11, 11, 13, 12, 14, 11, 11, 11];
-
-const ANN: [u64; 8] = [7, 224, 2016, 2016, 1, 1, 1, 0];
+const TRIPLES: [(u16, u16, u16, u64); 8] = [
+    (10, 2, 11, 7),
+    (10, 2, 11, 224),
+    (11, 1, 13, 2016),
+    (11, 1, 12, 2016),
+    (11, 1, 14, 1),
+    (65535, 2, 11, 1),
+    (10, 16384, 11, 1),
+    (10, 2, 11, 0),
+];
 
 fn main(rt: HostRuntime) -> io::Result<()> {
     let mut subj = [0u16; 3];
@@ -35,12 +38,8 @@ fn add_all(
     ann: &mut [u64],
 ) -> io::Result<usize> {
     let mut count = 0;
-    let mut i = 0;
-    while i < 8 {
-        count = shown_add(
-            rt, subj, pred, obj, ann, count, SUBJ[i], PRED[i], OBJ[i], ANN[i],
-        )?;
-        i += 1;
+    for triple in TRIPLES {
+        count = shown_add(rt, subj, pred, obj, ann, count, triple)?;
     }
     Ok(count)
 }
@@ -52,17 +51,10 @@ fn shown_add(
     obj: &mut [u16],
     ann: &mut [u64],
     count: usize,
-    s: u16,
-    p: u16,
-    o: u16,
-    a: u64,
+    (s, p, o, a): (u16, u16, u16, u64),
 ) -> io::Result<usize> {
     let done = add(1, subj, pred, obj, ann, count, s, p, o, a);
-    listing::word(rt, b"added")?;
-    listing::then(rt, done.number as u64)?;
-    listing::then(rt, done.place as u64)?;
-    listing::then(rt, done.count as u64)?;
-    listing::end(rt)?;
+    println!(rt; "added {} {} {}", done.number, done.place, done.count)?;
     listing::rows(rt, subj, pred, obj, ann, done.count)?;
     Ok(done.count)
 }
@@ -76,9 +68,9 @@ fn check_all(
     ann: &[u64],
     count: usize,
 ) -> io::Result<()> {
-    shown_check(rt, 1, subj, pred, obj, ann, count)?;
-    shown_check(rt, 2, subj, pred, obj, ann, count)?;
-    shown_check(rt, 3, subj, pred, obj, ann, count)?;
+    for kind in 1..=3 {
+        shown_check(rt, kind, subj, pred, obj, ann, count)?;
+    }
     shown_check(rt, 1, subj, pred, obj, ann, 4)
 }
 
@@ -92,8 +84,5 @@ fn shown_check(
     count: usize,
 ) -> io::Result<()> {
     let verdict = check(kind, subj, pred, obj, ann, count);
-    listing::word(rt, b"checked")?;
-    listing::then(rt, verdict.number as u64)?;
-    listing::then(rt, verdict.place as u64)?;
-    listing::end(rt)
+    println!(rt; "checked {} {}", verdict.number, verdict.place)
 }

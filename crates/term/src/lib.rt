@@ -5,10 +5,11 @@
 ghost use Rattle.std.specs.Prelude.{◌≡◌};
 ghost use Rattle.term.specs.Term.{sort_of, number_of, term_checks, predicate_checks};
 ghost use Rattle.term.specs.Refusal.{first};
+ghost use Rattle.term.specs.Refused.{number_in};
 
 mod refusal;
 
-pub use refusal::Verdict;
+pub use refusal::{Refusal, Refused, Verdict};
 
 // The names with a meaning in the rules.
 pub const SP: u16 = 0;
@@ -38,10 +39,6 @@ const NUMBER_BITS: u16 = 14;
 
 const NUMBER_MASK: u16 = 16383;
 
-pub const ILLEGAL_TERM: u8 = 8;
-
-pub const NOT_A_NAME: u8 = 9;
-
 pub fn sort_of(term: u16) -> u16
     ensures { result ≡ sort_of term }
 {
@@ -54,19 +51,23 @@ pub fn number_of(term: u16) -> u16
     term & NUMBER_MASK
 }
 
-// The refusal of a term as subject or object, 0 where it is legal.
-pub fn term_refusal(term: u16) -> u8
-    ensures { result ≡ (first (term_checks term 0)).number }
+// Whether a term is legal as subject or object.
+pub fn check_term(term: u16) -> Result<(), Refusal>
+    ensures { number_in result ≡ (first (term_checks term 0)).number }
 {
-    if term < UNBOUND { 0 } else { ILLEGAL_TERM }
+    if term >= UNBOUND {
+        return Err(Refusal::IllegalTerm);
+    }
+    Ok(())
 }
 
-// The refusal of a term as predicate, 0 where it is a name.
-pub fn predicate_refusal(term: u16) -> u8
-    ensures { result ≡ (first (predicate_checks term 0)).number }
+// Whether a term is legal as predicate: a name.
+pub fn check_predicate(term: u16) -> Result<(), Refusal>
+    ensures { number_in result ≡ (first (predicate_checks term 0)).number }
 {
-    if UNBOUND <= term {
-        return ILLEGAL_TERM;
+    check_term(term)?;
+    if sort_of(term) != NAME {
+        return Err(Refusal::NotAName);
     }
-    if sort_of(term) == NAME { 0 } else { NOT_A_NAME }
+    Ok(())
 }

@@ -80,9 +80,6 @@ module _ (s : List ℕ) (term : ℕ) where
     pub put_in : With true term s with_bit
     put_in = record { more = record { long = length-set s (word_of term) _; also = more }; there = λ _. there }
 
-  pub left_out : With false term s s
-  left_out = record { more = among_self s; there = λ e. absurd (true≢false (sym e)) }
-
 -- ---- a term less
 
 -- the words that are ones but for one bit

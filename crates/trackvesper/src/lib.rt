@@ -37,6 +37,7 @@ fn pack(number: u8, rest: usize) -> u64
 }
 
 // Reads the book into lanes of zeros, closes them under its rule set, and writes them out.
+// Each call of the page answers by number and place, and so does this one: a Result between would be made and taken apart again.
 fn close_into(
     book: &[u8],
     out: &mut [u8],

@@ -10,9 +10,10 @@ use lib.Dec.{leb}
 use lib.ListN.{length, get_or, take, length-append}
 use lib.Seq.{ext_get_or, get_or-take, length-take-le, take-append_seam}
 use borrow.Author.Tests.{leb-true, leb-false, le-leb, lt-leb}
-use Rattle.utf8.specs.declared.Character.TheVariants.{Whole, Bad}
+use Rattle.std.specs.Prelude.{Option, Some, None}
 use Rattle.utf8.specs.Characters.{is_character_lem, char_bytes, one_octet, two_octets, three_octets, four_octets}
-use Rattle.utf8.specs.Octets.{is_one_lem, is_two, is_three, is_four, two_number, three_number, four_number, character_of, character_in}
+use Rattle.utf8.specs.declared.Character.{Character}
+use Rattle.utf8.specs.Octets.{whole, is_one_lem, is_two, is_three, is_four, two_number, three_number, four_number, character_of, character_in}
 use Rattle.utf8.proofs.Judged.{and_left, and_right, low-character, high_character, character_is, one-high, Two, Three, Four, two_is, is-two, three-is, is-three, four_is, is-four}
 use Rattle.utf8.proofs.Decoding.{is-so}
 use Rattle.utf8.proofs.Cases as cases
@@ -37,6 +38,18 @@ module _ (c : ℕ) where
   bytes-four l = rw (lt-leb c 0x7F (omega arith), lt-leb c 0x7FF (omega arith), lt-leb c 0xFFFF l) refl
 
 -- ---- what the grammar takes is in the table
+
+-- a character found is one character
+abbrev found_number : Option Character → ℕ
+found_number (Some c) = c.number
+found_number None = 0
+
+abbrev found_size : Option Character → ℕ
+found_size (Some c) = c.size
+found_size None = 0
+
+same-whole : (c n d m : ℕ) → whole c n ≡ whole d m → (c ≡ d) × (n ≡ m)
+same-whole c n d m h = (ap found_number h, ap found_size h)
 
 -- c is a character, n are its octets, and they are the first of these four
 pub record Told (left c n : ℕ) (octets : List ℕ) : Type 0 where
@@ -91,30 +104,26 @@ module _ (left x y z w : ℕ) where
       (bytes-four (four_number x y z w) t.least ∙ cc) refl l (omega arith) (omega arith) refl
 
   sound-from : (a b d e : Bool) (c n : ℕ) → leb 1 left && is_one_lem x ≡ a → leb 2 left && is_two x y ≡ b → leb 3 left && is_three x y z ≡ d → leb 4 left && is_four x y z w ≡ e
-      → cond a (Whole x 1) (cond b (Whole (two_number x y) 2) (cond d (Whole (three_number x y z) 3) (cond e (Whole (four_number x y z w) 4) Bad))) ≡ Whole c n → Told left c n four_octets_lem
+      → cond a (whole x 1) (cond b (whole (two_number x y) 2) (cond d (whole (three_number x y z) 3) (cond e (whole (four_number x y z w) 4) None))) ≡ whole c n → Told left c n four_octets_lem
   sound-from true b d e c n ea eb ed ee h =
-      let p : x ≡ c = cc in
-      let q : 1 ≡ n = cc in
+      let e = same-whole (x) 1 c n h in
       let t = told_one (leb-true 1 left (and_left (leb 1 left) _ ea)) (and_right (leb 1 left) _ ea) in
-      moved left c n _ _ four_octets_lem p q t
+      moved left c n _ _ four_octets_lem e.0 e.1 t
   sound-from false true d e c n ea eb ed ee h =
-      let p : two_number x y ≡ c = cc in
-      let q : 2 ≡ n = cc in
+      let e = same-whole (two_number x y) 2 c n h in
       let t = told_two (leb-true 2 left (and_left (leb 2 left) _ eb)) (and_right (leb 2 left) _ eb) in
-      moved left c n _ _ four_octets_lem p q t
+      moved left c n _ _ four_octets_lem e.0 e.1 t
   sound-from false false true e c n ea eb ed ee h =
-      let p : three_number x y z ≡ c = cc in
-      let q : 3 ≡ n = cc in
+      let e = same-whole (three_number x y z) 3 c n h in
       let t = told_three (leb-true 3 left (and_left (leb 3 left) _ ed)) (and_right (leb 3 left) _ ed) in
-      moved left c n _ _ four_octets_lem p q t
+      moved left c n _ _ four_octets_lem e.0 e.1 t
   sound-from false false false true c n ea eb ed ee h =
-      let p : four_number x y z w ≡ c = cc in
-      let q : 4 ≡ n = cc in
+      let e = same-whole (four_number x y z w) 4 c n h in
       let t = told_four (leb-true 4 left (and_left (leb 4 left) _ ee)) (and_right (leb 4 left) _ ee) in
-      moved left c n _ _ four_octets_lem p q t
+      moved left c n _ _ four_octets_lem e.0 e.1 t
   sound-from false false false false c n ea eb ed ee h = absurd (let f : ◌≡◌ {A = ℕ} 0 1 = cc in omega arith)
 
-  pub sound-of : (c n : ℕ) → character_of left x y z w ≡ Whole c n → Told left c n (x ∷ y ∷ z ∷ w ∷ [])
+  pub sound-of : (c n : ℕ) → character_of left x y z w ≡ whole c n → Told left c n (x ∷ y ∷ z ∷ w ∷ [])
   unfolding character_of
   sound-of c n h = sound-from (leb 1 left && is_one_lem x) (leb 2 left && is_two x y) (leb 3 left && is_three x y z) (leb 4 left && is_four x y z w) c n refl refl refl refl h
 
@@ -125,16 +134,16 @@ four_digits c p q r d e f x y z w hc hp hq hx hy hz hw = omega arith
 -- ---- and what is in the table, the grammar takes
 
 module _ (left x y z w c : ℕ) (character : is_character_lem c ≡ true) where
-  found-one : c ≤ 0x7F → 1 ≤ left → x ≡ c → character_of left x y z w ≡ Whole c 1
-  found-one h l ex = sym (ap (λ (v : ℕ). Whole v 1) (sym ex) ∙ cases.one left x y z w l (omega arith))
+  found-one : c ≤ 0x7F → 1 ≤ left → x ≡ c → character_of left x y z w ≡ whole c 1
+  found-one h l ex = sym (ap (λ (v : ℕ). whole v 1) (sym ex) ∙ cases.one left x y z w l (omega arith))
 
-  found-two : 0x80 ≤ c → c ≤ 0x7FF → 2 ≤ left → x ≡ 0xC0 + c / 64 → y ≡ 0x80 + c % 64 → character_of left x y z w ≡ Whole c 2
+  found-two : 0x80 ≤ c → c ≤ 0x7FF → 2 ≤ left → x ≡ 0xC0 + c / 64 → y ≡ 0x80 + c % 64 → character_of left x y z w ≡ whole c 2
   found-two l h m ex ey =
       let t : Two x y = omega arith in
       let same : two_number x y ≡ c = omega arith in
-      sym (cases.two left x y z w m (omega arith) (omega arith)) ∙ sym (is-so (is_two x y) (Whole (two_number x y) 2) (is-two x y t)) ∙ ap (λ (v : ℕ). Whole v 2) same
+      sym (cases.two left x y z w m (omega arith) (omega arith)) ∙ sym (is-so (is_two x y) (whole (two_number x y) 2) (is-two x y t)) ∙ ap (λ (v : ℕ). whole v 2) same
 
-  found-three : 0x800 ≤ c → c ≤ 0xFFFF → 3 ≤ left → x ≡ 0xE0 + c / 4096 → y ≡ 0x80 + c / 64 % 64 → z ≡ 0x80 + c % 64 → character_of left x y z w ≡ Whole c 3
+  found-three : 0x800 ≤ c → c ≤ 0xFFFF → 3 ≤ left → x ≡ 0xE0 + c / 4096 → y ≡ 0x80 + c / 64 % 64 → z ≡ 0x80 + c % 64 → character_of left x y z w ≡ whole c 3
   found-three l h m ex ey ez =
       let same : three_number x y z ≡ c = omega arith in
       let t : Three x y z
@@ -148,10 +157,10 @@ module _ (left x y z w c : ℕ) (character : is_character_lem c ≡ true) where
         least = omega arith;
         character = rw same character;
       } in
-      sym (cases.three left x y z w m (omega arith) (omega arith)) ∙ sym (is-so (is_three x y z) (Whole (three_number x y z) 3) (is-three x y z t)) ∙ ap (λ (v : ℕ). Whole v 3) same
+      sym (cases.three left x y z w m (omega arith) (omega arith)) ∙ sym (is-so (is_three x y z) (whole (three_number x y z) 3) (is-three x y z t)) ∙ ap (λ (v : ℕ). whole v 3) same
 
   found-four : 0x10000 ≤ c → c ≤ 0x10FFFF → 4 ≤ left → x ≡ 0xF0 + c / 262144 → y ≡ 0x80 + c / 4096 % 64 → z ≡ 0x80 + c / 64 % 64 → w ≡ 0x80 + c % 64
-      → character_of left x y z w ≡ Whole c 4
+      → character_of left x y z w ≡ whole c 4
   found-four l h m ex ey ez ew =
       let same = four_digits c (c / 64) (c / 4096) (c / 262144) (c % 64) (c / 64 % 64) (c / 4096 % 64) x y z w (omega arith) (omega arith) (omega arith) ex ey ez ew in
       let t : Four x y z w
@@ -167,7 +176,7 @@ module _ (left x y z w c : ℕ) (character : is_character_lem c ≡ true) where
         least = omega arith;
         most = omega arith;
       } in
-      sym (cases.four left x y z w m (omega arith)) ∙ sym (is-so (is_four x y z w) (Whole (four_number x y z w) 4) (is-four x y z w t)) ∙ ap (λ (v : ℕ). Whole v 4) same
+      sym (cases.four left x y z w m (omega arith)) ∙ sym (is-so (is_four x y z w) (whole (four_number x y z w) 4) (is-four x y z w t)) ∙ ap (λ (v : ℕ). whole v 4) same
 
   not-above : c ≤ 0x10FFFF
   not-above = ⊎_elim (λ l. omega arith) (λ h. h.1) (character_is c character)
@@ -177,7 +186,7 @@ module _ (left x y z w c : ℕ) (character : is_character_lem c ≡ true) where
 
   -- by the line of the table
   by_line : (p q r : Bool) (v : List ℕ) → leb c 0x7F ≡ p → leb c 0x7FF ≡ q → leb c 0xFFFF ≡ r → char_bytes c ≡ v → length v ≤ left → begins v
-      → character_of left x y z w ≡ Whole c (length v)
+      → character_of left x y z w ≡ whole c (length v)
   by_line true q r v ep eq er e l b =
       let h = leb-true c 0x7F ep in
       let u : v ≡ c ∷ [] = sym e ∙ bytes_one c h in
@@ -208,7 +217,7 @@ module _ (left x y z w c : ℕ) (character : is_character_lem c ≡ true) where
       let l' : length o ≤ left = rw u at l in
       rw u (found-four k not-above l' (cc) (cc) (cc) (cc))
 
-  pub complete_of : length (char_bytes c) ≤ left → take (length (char_bytes c)) (x ∷ y ∷ z ∷ w ∷ []) ≡ char_bytes c → character_of left x y z w ≡ Whole c (length (char_bytes c))
+  pub complete_of : length (char_bytes c) ≤ left → take (length (char_bytes c)) (x ∷ y ∷ z ∷ w ∷ []) ≡ char_bytes c → character_of left x y z w ≡ whole c (length (char_bytes c))
   complete_of l b = by_line (leb c 0x7F) (leb c 0x7FF) (leb c 0xFFFF) (char_bytes c) refl refl refl refl l b
 
 -- ---- of lists
@@ -239,7 +248,7 @@ first-octets s n h k =
     get_or-take n (first_four s) i 0 m ∙ same-four s i (omega arith) ∙ sym (get_or-take n s i 0 m))
 
 -- what octets begin with is a character, and its octets
-pub sound-in : (s : List ℕ) (c n : ℕ) → character_in s ≡ Whole c n → Told (length s) c n s
+pub sound-in : (s : List ℕ) (c n : ℕ) → character_in s ≡ whole c n → Told (length s) c n s
 unfolding character_in
 sound-in s c n h =
     let t = sound-of (length s) (get_or s 0 0) (get_or s 1 0) (get_or s 2 0) (get_or s 3 0) c n h in
@@ -247,12 +256,12 @@ sound-in s c n h =
 
 -- and where they begin with a character's octets, it is found
 pub complete_in : (s : List ℕ) (c : ℕ) → is_character_lem c ≡ true → length (char_bytes c) ≤ length s → take (length (char_bytes c)) s ≡ char_bytes c
-    → character_in s ≡ Whole c (length (char_bytes c))
+    → character_in s ≡ whole c (length (char_bytes c))
 unfolding character_in
 complete_in s c h l b =
     complete_of (length s) (get_or s 0 0) (get_or s 1 0) (get_or s 2 0) (get_or s 3 0) c h l (first-octets s (length (char_bytes c)) (size_few c).1 l ∙ b)
 
-pub complete_front : (c : ℕ) (s : List ℕ) → is_character_lem c ≡ true → character_in (char_bytes c ++ s) ≡ Whole c (length (char_bytes c))
+pub complete_front : (c : ℕ) (s : List ℕ) → is_character_lem c ≡ true → character_in (char_bytes c ++ s) ≡ whole c (length (char_bytes c))
 complete_front c s h =
     complete_in (char_bytes c ++ s) c h (omega (arith, length-append (char_bytes c) s)) (take-append_seam (char_bytes c) s)
 
@@ -261,5 +270,4 @@ pub prefix_free : (c d : ℕ) (s t : List ℕ) → is_character_lem c ≡ true �
 prefix_free c d s t hc hd e =
     let p = complete_front c s hc in
     let q = complete_front d t hd in
-    let r : Whole c (length (char_bytes c)) ≡ Whole d (length (char_bytes d)) = sym p ∙ ap character_in e ∙ q in
-    cc
+    (same-whole c (length (char_bytes c)) d (length (char_bytes d)) (sym p ∙ ap character_in e ∙ q)).0

@@ -1,5 +1,5 @@
 -- The grammar's tests as facts on numbers, both ways. Assumes nothing.
-use mathlib.Core.Path.{◌≡◌, refl}
+use mathlib.Core.Path.{◌≡◌, refl, sym, ◌∙◌}
 use mathlib.Core.Logic.{◌⊎◌, inl, inr, ⊎_elim}
 use mathlib.Core.Bool.{Bool, true, false, ◌&&◌, ◌||◌, false≢true, or-true}
 use Prim.Native.Nat.{ℕ, ◌≤◌}
@@ -48,6 +48,15 @@ low-character c h = or_left _ _ (within-is 0 0xD7FF c (omega arith) h)
 pub high_character : (c : ℕ) → 0xE000 ≤ c → c ≤ 0x10FFFF → is_character_lem c ≡ true
 unfolding is_character_lem
 high_character c h k = or_right (within 0 0xD7FF c) _ (within-is 0xE000 0x10FFFF c h k)
+
+pub no_surrogate : (c : ℕ) → c ≤ 0xFFFF → within 0xD800 0xDFFF c ≡ false → is_character_lem c ≡ true
+no_surrogate c h e = by (leb c 0xD7FF) (leb 0xE000 c) refl refl
+  where
+    by : (p q : Bool) → leb c 0xD7FF ≡ p → leb 0xE000 c ≡ q → is_character_lem c ≡ true
+    by true q ep eq = low-character c (leb-true c 0xD7FF ep)
+    by false true ep eq = high_character c (leb-true 0xE000 c eq) (omega arith)
+    by false false ep eq =
+        absurd (false≢true (sym e ∙ within-is 0xD800 0xDFFF c (omega (arith, leb-false c 0xD7FF ep)) (omega (arith, leb-false 0xE000 c eq))))
 
 pub character_is : (c : ℕ) → is_character_lem c ≡ true → (c ≤ 0xD7FF) ⊎ ((0xE000 ≤ c) × (c ≤ 0x10FFFF))
 unfolding is_character_lem

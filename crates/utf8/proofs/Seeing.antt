@@ -8,9 +8,9 @@ use native.Mathlib.Nat.{zero-add, suc-add}
 use native.Mathlib.Omega.{arith}
 use lib.ListN.{length, take, drop, drop_of_length-le, length-take}
 use lib.Seq.{slice, slice_empty, length-slice, take-nil, drop-drop, take-take, take-add}
-use Rattle.utf8.specs.declared.Character.TheVariants.{Whole, Bad}
+use Rattle.std.specs.Prelude.{None}
 use Rattle.utf8.specs.Characters.{is_character_lem, char_bytes, text_bytes}
-use Rattle.utf8.specs.Octets.{character_at}
+use Rattle.utf8.specs.Octets.{whole, character_at}
 use Rattle.utf8.specs.Texts.{bad, chars_of, seen, are_characters, is_text_lem, AllCharacters, SeenAt}
 use Rattle.utf8.proofs.Judged.{character_is}
 use Rattle.utf8.proofs.Agree.{sound-in}
@@ -47,10 +47,10 @@ slice_past f t l h = drop_of_length-le (take t l) {i = f} (let e = length-take t
 -- ---- one character
 
 module _ (b : List ℕ) (at end : ℕ) (some : at < end) (within : end ≤ length b) where
-  pub whole-fits : (c n : ℕ) → character_at b at end ≡ Whole c n → at + n ≤ end
+  pub whole-fits : (c n : ℕ) → character_at b at end ≡ whole c n → at + n ≤ end
   whole-fits c n e = let t = sound-in (slice at end b) c n e in omega (arith, t.fits, length-slice at end b within)
 
-  pub seen-whole : (c n : ℕ) → character_at b at end ≡ Whole c n → SeenAt b at end c (at + n)
+  pub seen-whole : (c n : ℕ) → character_at b at end ≡ whole c n → SeenAt b at end c (at + n)
   seen-whole c n e =
       let t = sound-in (slice at end b) c n e in
       let fits = whole-fits c n e in
@@ -63,7 +63,7 @@ module _ (b : List ℕ) (at end : ℕ) (some : at < end) (within : end ≤ lengt
         or_bad = λ h. absurd (true≢false (sym t.character ∙ h));
       }
 
-  pub seen-bad : character_at b at end ≡ Bad → SeenAt b at end bad end
+  pub seen-bad : character_at b at end ≡ None → SeenAt b at end bad end
   seen-bad e =
       record {
         later = some;

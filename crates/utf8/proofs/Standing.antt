@@ -8,8 +8,8 @@ use native.Mathlib.Omega.{arith}
 use lib.ListN.{length, get_or, take}
 use lib.Seq.{slice, length-slice, get_or-drop, get_or-take}
 use Rattle.utf8.specs.declared.Character.{Character}
-use Rattle.utf8.specs.declared.Character.TheVariants.{Whole, Bad}
-use Rattle.utf8.specs.Octets.{is_two, is_three, is_four, two_number, three_number, four_number, character_in, character_at}
+use Rattle.std.specs.Prelude.{Option, None}
+use Rattle.utf8.specs.Octets.{whole, is_two, is_three, is_four, two_number, three_number, four_number, character_in, character_at}
 use Rattle.utf8.proofs.Cases as cases
 
 module _ (b : List ℕ) (at end : ℕ) (within : end ≤ length b) where
@@ -22,7 +22,7 @@ module _ (b : List ℕ) (at end : ℕ) (within : end ≤ length b) where
   first-octet : at < end → get_or (slice at end b) 0 0 ≡ get_or b at 0
   first-octet h = octet 0 (omega arith) ∙ ap (λ (k : ℕ). get_or b k 0) (add-zero at)
 
-  pub at_end : end ≤ at → Bad ≡ character_at b at end
+  pub at_end : end ≤ at → None ≡ character_at b at end
   unfolding character_in
   at_end h = cases.none_left (length (slice at end b)) _ _ _ _ (omega (arith, left_is))
 
@@ -30,31 +30,31 @@ module _ (b : List ℕ) (at end : ℕ) (within : end ≤ length b) where
     same : x ≡ get_or (slice at end b) 0 0
     same = first ∙ sym (first-octet some)
 
-    pub at_one : x < 0x80 → Whole x 1 ≡ character_at b at end
+    pub at_one : x < 0x80 → whole x 1 ≡ character_at b at end
     unfolding character_in
-    at_one h = ap (λ (v : ℕ). Whole v 1) same ∙ cases.one (length (slice at end b)) (get_or (slice at end b) 0 0) _ _ _ (omega (arith, left_is)) (omega (arith, same))
+    at_one h = ap (λ (v : ℕ). whole v 1) same ∙ cases.one (length (slice at end b)) (get_or (slice at end b) 0 0) _ _ _ (omega (arith, left_is)) (omega (arith, same))
 
-    pub at_cut_two : 0x80 ≤ x → end - at < 2 → Bad ≡ character_at b at end
+    pub at_cut_two : 0x80 ≤ x → end - at < 2 → None ≡ character_at b at end
     unfolding character_in
     at_cut_two h l = cases.cut-two (length (slice at end b)) (get_or (slice at end b) 0 0) _ _ _ (omega (arith, left_is)) (omega (arith, same))
 
-    pub at_cut_three : 0xE0 ≤ x → end - at < 3 → Bad ≡ character_at b at end
+    pub at_cut_three : 0xE0 ≤ x → end - at < 3 → None ≡ character_at b at end
     unfolding character_in
     at_cut_three h l = cases.cut-three (length (slice at end b)) (get_or (slice at end b) 0 0) _ _ _ (omega (arith, left_is)) (omega (arith, same))
 
-    pub at_cut_four : 0xF0 ≤ x → end - at < 4 → Bad ≡ character_at b at end
+    pub at_cut_four : 0xF0 ≤ x → end - at < 4 → None ≡ character_at b at end
     unfolding character_in
     at_cut_four h l = cases.cut-four (length (slice at end b)) (get_or (slice at end b) 0 0) _ _ _ (omega (arith, left_is)) (omega (arith, same))
 
-    module _ (r : Character) (y : ℕ) (second : y ≡ get_or b (at + 1) 0) where
-      pub at_two : r ≡ cond (is_two x y) (Whole (two_number x y) 2) Bad → 0x80 ≤ x → x < 0xE0 → 2 ≤ end - at → r ≡ character_at b at end
+    module _ (r : Option Character) (y : ℕ) (second : y ≡ get_or b (at + 1) 0) where
+      pub at_two : r ≡ cond (is_two x y) (whole (two_number x y) 2) None → 0x80 ≤ x → x < 0xE0 → 2 ≤ end - at → r ≡ character_at b at end
       unfolding character_in
       at_two e h k l =
           let same2 : y ≡ get_or (slice at end b) 1 0 = second ∙ sym (octet 1 (omega arith)) in
           e ∙ sym (rw (← same, ← same2) (sym (cases.two (length (slice at end b)) x y (get_or (slice at end b) 2 0) (get_or (slice at end b) 3 0) (omega (arith, left_is)) h k)))
 
       module _ (z : ℕ) (third : z ≡ get_or b (at + 2) 0) where
-        pub at_three : r ≡ cond (is_three x y z) (Whole (three_number x y z) 3) Bad → 0xE0 ≤ x → x < 0xF0 → 3 ≤ end - at → r ≡ character_at b at end
+        pub at_three : r ≡ cond (is_three x y z) (whole (three_number x y z) 3) None → 0xE0 ≤ x → x < 0xF0 → 3 ≤ end - at → r ≡ character_at b at end
         unfolding character_in
         at_three e h k l =
             let same2 : y ≡ get_or (slice at end b) 1 0 = second ∙ sym (octet 1 (omega arith)) in
@@ -62,7 +62,7 @@ module _ (b : List ℕ) (at end : ℕ) (within : end ≤ length b) where
             e ∙ sym (rw (← same, ← same2, ← same3) (sym (cases.three (length (slice at end b)) x y z (get_or (slice at end b) 3 0) (omega (arith, left_is)) h k)))
 
         module _ (w : ℕ) (fourth : w ≡ get_or b (at + 3) 0) where
-          pub at_four : r ≡ cond (is_four x y z w) (Whole (four_number x y z w) 4) Bad → 0xF0 ≤ x → 4 ≤ end - at → r ≡ character_at b at end
+          pub at_four : r ≡ cond (is_four x y z w) (whole (four_number x y z w) 4) None → 0xF0 ≤ x → 4 ≤ end - at → r ≡ character_at b at end
           unfolding character_in
           at_four e h l =
               let same2 : y ≡ get_or (slice at end b) 1 0 = second ∙ sym (octet 1 (omega arith)) in

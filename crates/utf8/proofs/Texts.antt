@@ -4,14 +4,14 @@ use mathlib.Core.Path.{◌≡◌, refl, sym, ap, ◌∙◌}
 use mathlib.Core.Bool.{Bool, true, false, ◌&&◌, false≢true}
 use mathlib.Core.Logic.{◌↔◌}
 use mathlib.Core.List.{List, [], ◌∷◌, ◌++◌, append_assoc, append-nil}
-use Prim.Native.Nat.{ℕ, zero, suc, ◌+◌, ◌≤◌}
+use Prim.Native.Nat.{ℕ, zero, suc, ◌≤◌}
 use native.Mathlib.Omega.{arith}
 use lib.ListN.{length, drop, length-drop, take-append-drop}
 use lib.Seq.{drop-append_seam}
 use Rattle.utf8.specs.declared.Character.{Character}
-use Rattle.utf8.specs.declared.Character.TheVariants.{Whole, Bad}
+use Rattle.std.specs.Prelude.{Option, Some, None}
 use Rattle.utf8.specs.Characters.{is_character_lem, char_bytes, text_bytes}
-use Rattle.utf8.specs.Octets.{character_in}
+use Rattle.utf8.specs.Octets.{whole, character_in}
 use Rattle.utf8.specs.Texts.{bad, front, chars_from, chars_of, are_characters, is_text_lem, AllCharacters}
 use Rattle.utf8.proofs.Agree.{sound-in, complete_front}
 
@@ -26,7 +26,7 @@ unfolding chars_from
 from-nil zero = refl
 from-nil (suc m) = refl
 
-fewer : (s : List ℕ) (c n m : ℕ) → character_in s ≡ Whole c n → length s ≤ suc m → length (drop n s) ≤ m
+fewer : (s : List ℕ) (c n m : ℕ) → character_in s ≡ whole c n → length s ≤ suc m → length (drop n s) ≤ m
 fewer s c n m e h = let t = sound-in s c n e in let k = length-drop n s in let o = t.some in omega arith
 
 enough : (m n : ℕ) (s : List ℕ) → length s ≤ m → length s ≤ n → chars_from m s ≡ chars_from n s
@@ -37,27 +37,27 @@ enough (suc m) n [] h k = sym (from-nil n)
 enough (suc m) zero (x ∷ xs) h k = absurd (omega arith)
 enough (suc m) (suc n) (x ∷ xs) h k = by (character_in (x ∷ xs)) refl (λ size p q. enough m n (drop size (x ∷ xs)) p q)
   where
-    by : (f : Character) → character_in (x ∷ xs) ≡ f
+    by : (f : Option Character) → character_in (x ∷ xs) ≡ f
         → ((size : ℕ) → length (drop size (x ∷ xs)) ≤ m → length (drop size (x ∷ xs)) ≤ n → chars_from m (drop size (x ∷ xs)) ≡ chars_from n (drop size (x ∷ xs)))
         → front f (λ size. chars_from m (drop size (x ∷ xs))) ≡ front f (λ size. chars_from n (drop size (x ∷ xs)))
-    by (Whole c size) e again = ap (λ (l : List ℕ). c ∷ l) (again size (fewer (x ∷ xs) c size m e h) (fewer (x ∷ xs) c size n e k))
-    by Bad e again = refl
+    by (Some c) e again = ap (λ (l : List ℕ). c.number ∷ l) (again c.size (fewer (x ∷ xs) c.number c.size m e h) (fewer (x ∷ xs) c.number c.size n e k))
+    by None e again = refl
 
 pub chars-nil : chars_of [] ≡ []
 unfolding chars_of chars_from
 chars-nil = refl
 
-pub chars-whole : (s : List ℕ) (c n : ℕ) → character_in s ≡ Whole c n → chars_of s ≡ c ∷ chars_of (drop n s)
+pub chars-whole : (s : List ℕ) (c n : ℕ) → character_in s ≡ whole c n → chars_of s ≡ c ∷ chars_of (drop n s)
 unfolding chars_of chars_from
 chars-whole [] c n e = absurd (let t = sound-in [] c n e in let o = t.some in let f = t.fits in omega arith)
 chars-whole (x ∷ xs) c n e =
-    ap (λ (f : Character). front f (λ size. chars_from (length xs) (drop size (x ∷ xs)))) e
+    ap (λ (f : Option Character). front f (λ size. chars_from (length xs) (drop size (x ∷ xs)))) e
     ∙ ap (λ (l : List ℕ). c ∷ l) (enough (length xs) (length (drop n (x ∷ xs))) (drop n (x ∷ xs)) (fewer (x ∷ xs) c n (length xs) e (omega arith)) (omega arith))
 
-pub chars-bad : (s : List ℕ) → 1 ≤ length s → character_in s ≡ Bad → chars_of s ≡ bad ∷ []
+pub chars-bad : (s : List ℕ) → 1 ≤ length s → character_in s ≡ None → chars_of s ≡ bad ∷ []
 unfolding chars_of chars_from
 chars-bad [] h e = absurd (omega arith)
-chars-bad (x ∷ xs) h e = ap (λ (f : Character). front f (λ size. chars_from (length xs) (drop size (x ∷ xs)))) e
+chars-bad (x ∷ xs) h e = ap (λ (f : Option Character). front f (λ size. chars_from (length xs) (drop size (x ∷ xs)))) e
 
 -- ---- round trip
 
@@ -80,17 +80,17 @@ text-from zero (x ∷ xs) h all = absurd (omega arith)
 text-from (suc m) [] h all = rw chars-nil refl
 text-from (suc m) (x ∷ xs) h all = by (character_in (x ∷ xs)) refl (λ size p q. text-from m (drop size (x ∷ xs)) p q)
   where
-    by : (f : Character) → character_in (x ∷ xs) ≡ f
+    by : (f : Option Character) → character_in (x ∷ xs) ≡ f
         → ((size : ℕ) → length (drop size (x ∷ xs)) ≤ m → AllCharacters (chars_of (drop size (x ∷ xs))) → text_bytes (chars_of (drop size (x ∷ xs))) ≡ drop size (x ∷ xs))
         → text_bytes (chars_of (x ∷ xs)) ≡ x ∷ xs
-    by (Whole c n) e again =
-        let first = chars-whole (x ∷ xs) c n e in
-        let rest : AllCharacters (c ∷ chars_of (drop n (x ∷ xs))) = rw first at all in
+    by (Some f) e again =
+        let first = chars-whole (x ∷ xs) f.number f.size e in
+        let rest : AllCharacters (f.number ∷ chars_of (drop f.size (x ∷ xs))) = rw first at all in
         ap text_bytes first
-        ∙ ap (λ (l : List ℕ). char_bytes c ++ l) (again n (fewer (x ∷ xs) c n m e h) rest.1)
-        ∙ ap (λ (l : List ℕ). l ++ drop n (x ∷ xs)) (sym (sound-in (x ∷ xs) c n e).bytes)
-        ∙ take-append-drop n (x ∷ xs)
-    by Bad e again =
+        ∙ ap (λ (l : List ℕ). char_bytes f.number ++ l) (again f.size (fewer (x ∷ xs) f.number f.size m e h) rest.1)
+        ∙ ap (λ (l : List ℕ). l ++ drop f.size (x ∷ xs)) (sym (sound-in (x ∷ xs) f.number f.size e).bytes)
+        ∙ take-append-drop f.size (x ∷ xs)
+    by None e again =
         let rest : AllCharacters (bad ∷ []) = rw (chars-bad (x ∷ xs) (omega arith) e) at all in
         absurd (false≢true (sym bad-is_none ∙ rest.0))
 

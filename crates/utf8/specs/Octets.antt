@@ -1,8 +1,7 @@
 -- RFC 3629, section 4: which octets are a character. Each rule of its grammar in its words, and the number that the octets give.
-use Rattle.std.specs.Prelude.{Bool, cond, ◌&&◌, ◌||◌, List, ℕ, ◌+◌, ◌-◌, ◌*◌, leb, length, get_or}
+use Rattle.std.specs.Prelude.{Bool, cond, ◌&&◌, ◌||◌, List, ℕ, ◌+◌, ◌-◌, ◌*◌, leb, length, get_or, Option, Some, None}
 use Rattle.std.proofs.Math.Seq.{slice}
 use Rattle.utf8.specs.declared.Character.{Character}
-use Rattle.utf8.specs.declared.Character.TheVariants.{Whole, Bad}
 use Rattle.utf8.specs.Characters.{within}
 
 -- UTF8-tail = %x80-BF
@@ -42,19 +41,23 @@ three_number x y z = (x - 0xE0) * 4096 + (y - 0x80) * 64 + (z - 0x80)
 abbrev pub four_number : ℕ → ℕ → ℕ → ℕ → ℕ
 four_number x y z w = (x - 0xF0) * 262144 + (y - 0x80) * 4096 + (z - 0x80) * 64 + (w - 0x80)
 
--- UTF8-char = UTF8-1 / UTF8-2 / UTF8-3 / UTF8-4, of so many octets left
-unfoldable pub character_of : ℕ → ℕ → ℕ → ℕ → ℕ → Character
-character_of left x y z w =
-    cond (leb 1 left && is_one_lem x) (Whole x 1)
-    (cond (leb 2 left && is_two x y) (Whole (two_number x y) 2)
-    (cond (leb 3 left && is_three x y z) (Whole (three_number x y z) 3)
-    (cond (leb 4 left && is_four x y z w) (Whole (four_number x y z w) 4)
-    Bad)))
+-- a character's number, and how many octets it has
+abbrev pub whole : ℕ → ℕ → Option Character
+whole number size = Some (record { number = number; size = size })
 
--- the character that octets begin with, with how many of them it has; Bad where they begin with none
-unfoldable pub character_in : List ℕ → Character
+-- UTF8-char = UTF8-1 / UTF8-2 / UTF8-3 / UTF8-4, of so many octets left
+unfoldable pub character_of : ℕ → ℕ → ℕ → ℕ → ℕ → Option Character
+character_of left x y z w =
+    cond (leb 1 left && is_one_lem x) (whole x 1)
+    (cond (leb 2 left && is_two x y) (whole (two_number x y) 2)
+    (cond (leb 3 left && is_three x y z) (whole (three_number x y z) 3)
+    (cond (leb 4 left && is_four x y z w) (whole (four_number x y z w) 4)
+    None)))
+
+-- the character that octets begin with, with how many of them it has; None where they begin with none
+unfoldable pub character_in : List ℕ → Option Character
 character_in s = character_of (length s) (get_or s 0 0) (get_or s 1 0) (get_or s 2 0) (get_or s 3 0)
 
 -- of the octets from `at` up to, not including, `end`
-abbrev pub character_at : List ℕ → ℕ → ℕ → Character
+abbrev pub character_at : List ℕ → ℕ → ℕ → Option Character
 character_at b at end = character_in (slice at end b)

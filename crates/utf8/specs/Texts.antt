@@ -1,9 +1,8 @@
 -- RFC 3629, section 4: UTF8-octets = *( UTF8-char ). The characters of octets, and which octets are a text.
-use Rattle.std.specs.Prelude.{◌≡◌, Bool, true, false, ◌&&◌, List, [], ◌∷◌, ℕ, suc, zero, ◌≤◌, ◌<◌, length, drop}
+use Rattle.std.specs.Prelude.{◌≡◌, Bool, true, false, ◌&&◌, List, [], ◌∷◌, ℕ, suc, zero, ◌≤◌, ◌<◌, length, drop, Option, Some, None}
 use Rattle.std.proofs.Math.Seq.{slice}
 use Rattle.ground.specs.Lists.{All}
 use Rattle.utf8.specs.declared.Character.{Character}
-use Rattle.utf8.specs.declared.Character.TheVariants.{Whole, Bad}
 use Rattle.utf8.specs.Characters.{is_character_lem, char_bytes}
 use Rattle.utf8.specs.Octets.{character_in}
 
@@ -11,9 +10,9 @@ use Rattle.utf8.specs.Octets.{character_in}
 abbrev pub bad : ℕ
 bad = 0x110000
 
-abbrev pub front : Character → (ℕ → List ℕ) → List ℕ
-front (Whole c size) rest = c ∷ rest size
-front Bad rest = bad ∷ []
+abbrev pub front : Option Character → (ℕ → List ℕ) → List ℕ
+front (Some c) rest = c.number ∷ rest c.size
+front None rest = bad ∷ []
 
 -- so many characters at most
 unfoldable pub chars_from : ℕ → List ℕ → List ℕ

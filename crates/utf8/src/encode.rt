@@ -5,16 +5,12 @@ ghost use Rattle.utf8.specs.Characters.{char_bytes};
 pub fn size_of(c: u32) -> usize
     ensures { result ≡ length (char_bytes c) }
 {
-    if c <= 0x7F {
-        return 1;
+    match c {
+        0..=0x7F => 1,
+        0x80..=0x7FF => 2,
+        0x800..=0xFFFF => 3,
+        _ => 4,
     }
-    if c <= 0x7FF {
-        return 2;
-    }
-    if c <= 0xFFFF {
-        return 3;
-    }
-    4
 }
 
 fn tail(bits: u32) -> u8

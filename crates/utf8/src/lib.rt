@@ -1,5 +1,5 @@
 // UTF-8 (RFC 3629): the character at a position of lent bytes, the bytes of a character, and whether bytes are a text.
-// What is no character (overlong, a surrogate, above 10FFFF, cut, a lone tail) is said to be Bad; nothing is refused here.
+// What is no character (overlong, a surrogate, above 10FFFF, cut, a lone tail) is None; nothing is refused here.
 #![tactic(auto)]
 
 ghost use Rattle.std.specs.Prelude.{◌≡◌, ◌≤◌, ◌<◌, length};
@@ -10,11 +10,11 @@ ghost use Rattle.utf8.specs.Texts.{is_text_lem, SeenAt};
 mod decode;
 pub mod encode;
 
-#[derive(Drop)]
-pub enum Character {
-    // Its number, and how many bytes it has.
-    Whole(u32, usize),
-    Bad,
+// A character's number, and how many bytes it has.
+#[derive(Clone, Copy)]
+pub struct Character {
+    pub number: u32,
+    pub size: usize,
 }
 
 // A character as a loop over bytes meets it.
@@ -24,46 +24,40 @@ pub struct Seen {
     pub next: usize,
 }
 
-// No character.
+// No character: a number beside them, as `chars_of` and `SeenAt` in specs/ have it, so a loop over characters needs no branch for it.
 pub const BAD: u32 = 0x110000;
 
-pub fn wide(byte: u8) -> u32
-    ensures { result ≡ byte }
-{
-    byte as u32
-}
-
 // The character that begins at a position and ends by `end`.
-pub fn char_at(b: &[u8], at: usize, end: usize) -> Character
+pub fn char_at(b: &[u8], at: usize, end: usize) -> Option<Character>
     requires { end ≤ length b.now }
     ensures { result ≡ character_at b.now at end }
 {
     if end <= at {
-        return Character::Bad;
+        return None;
     }
     let left = end - at;
-    let x = wide(b[at]);
+    let x = u32::from(b[at]);
     if x < 0x80 {
-        return Character::Whole(x, 1);
+        return Some(Character { number: x, size: 1 });
     }
     if left < 2 {
-        return Character::Bad;
+        return None;
     }
-    let y = wide(b[at + 1]);
+    let y = u32::from(b[at + 1]);
     if x < 0xE0 {
         return decode::two(x, y);
     }
     if left < 3 {
-        return Character::Bad;
+        return None;
     }
-    let z = wide(b[at + 2]);
+    let z = u32::from(b[at + 2]);
     if x < 0xF0 {
         return decode::three(x, y, z);
     }
     if left < 4 {
-        return Character::Bad;
+        return None;
     }
-    decode::four(x, y, z, wide(b[at + 3]))
+    decode::four(x, y, z, u32::from(b[at + 3]))
 }
 
 // The first character of the bytes from `at` up to `end`, and where the next begins; BAD, and `end`, where none is there.
@@ -71,7 +65,7 @@ pub fn see(b: &[u8], at: usize, end: usize) -> Seen
     requires { (at < end) × (end ≤ length b.now) }
     ensures { SeenAt b.now at end result.value result.next }
 {
-    let x = wide(b[at]);
+    let x = u32::from(b[at]);
     if x < 0x80 {
         return Seen {
             value: x,
@@ -79,11 +73,11 @@ pub fn see(b: &[u8], at: usize, end: usize) -> Seen
         };
     }
     match char_at(b, at, end) {
-        Character::Whole(value, size) => Seen {
-            value,
-            next: at + size,
+        Some(c) => Seen {
+            value: c.number,
+            next: at + c.size,
         },
-        Character::Bad => Seen {
+        None => Seen {
             value: BAD,
             next: end,
         },

@@ -11,13 +11,9 @@ use Rattle.table.specs.Places.{Placed}
 use Rattle.table.proofs.Ordering.{Tri, less, same, more, tri, climbs}
 use Rattle.table.proofs.Values.{legal-small, held-row, value-at, is-triple}
 use Rattle.rhodf.specs.Graph.{Graph, graph_of, Below}
-use Rattle.walks.specs.Walks.{WithinTwo}
 
 -- rows of a sound table
 module _ (kind : ℕ) (l : Lanes) (n : ℕ) (sound : Sound kind l n) where
-  pub within-two : WithinTwo l.subj l.pred n
-  within-two = record { in_subj = sound.within; in_pred = omega (arith, sound.within, sound.pred_long) }
-
   pub row-value : (i : ℕ) → i < n → (algebra kind).Value (row_at l i).a
   row-value i h = (legal-value (row_at l i).a kind (sound.legal i h).annotation).1
 

@@ -1,6 +1,6 @@
 -- A table that rises: not at all, one rising after another, and a loop of them, whose state is its promise at another place. Assumes nothing.
-use mathlib.Core.Path.{◌≡◌, refl, ◌∙◌, subst₂}
-use mathlib.Core.Bool.{Bool, true, false, true≢false, false≢true}
+use mathlib.Core.Path.{◌≡◌, refl, sym, ◌∙◌, subst₂}
+use mathlib.Core.Bool.{Bool, true, false, ◌||◌, true≢false, false≢true}
 use mathlib.Core.Logic.{◌⊎◌, inl, inr, ⊎_elim}
 use Prim.Native.Nat.{ℕ, ◌+◌, ◌≤◌, ◌<◌}
 use native.Mathlib.Omega.{arith}
@@ -19,9 +19,9 @@ pub which : (b : Bool) → (b ≡ true) ⊎ (b ≡ false)
 which true = inl refl
 which false = inr refl
 
-pub some-either : (a b : Bool) → (c : Bool) × Either a b c
-some-either true b = (true, record { neither = λ e. absurd (true≢false e); one = λ e. inl refl })
-some-either false b = (b, record { neither = λ e. (refl, e); one = λ e. inr e })
+pub either_or : (a b : Bool) → Either a b (a || b)
+either_or true b = record { neither = λ e. absurd (true≢false e); one = λ e. inl refl }
+either_or false b = record { neither = λ e. (refl, e); one = λ e. inr e }
 
 -- what a loop has passed, from `at` up to i
 pub record Passed (P : Lanes → ℕ → ℕ → Type 0) (at i : ℕ) (l : Lanes) (n : ℕ) : Type 0 where
@@ -88,13 +88,9 @@ module _ {R : Rules} {kind : ℕ} where
     }
 
   module _ {S : ℕ → Type 0} {Q : Type 0} {l : Lanes} {n : ℕ} {m : Lanes} {f c : Bool} {n' : ℕ} (s : Drew R kind S Q l n m f c n') where
-    -- it goes on where there was room
-    pub goes_on : f ≡ false → Drew R kind S Q l n m false c n'
-    goes_on e = rw (← e) s
-
     -- with no room left nothing is claimed of the plans
-    pub drew-full : {Q' : Type 0} → f ≡ true → Drew R kind S Q' l n m true c n'
-    drew-full e = record { risen = rw (← e) s.risen; kept = s.kept; inside = λ z. absurd (true≢false z) }
+    pub drew-full : {Q' : Type 0} → f ≡ true → Drew R kind S Q' l n m f c n'
+    drew-full e = record { risen = s.risen; kept = s.kept; inside = λ z. absurd (true≢false (sym e ∙ z)) }
 
     -- where nothing changed, the table at the end is the one at the beginning
     pub drew-so : {Q' : Type 0} → (m ≡ l → n' ≡ n → Q → Q') → Drew R kind S Q' l n m f c n'

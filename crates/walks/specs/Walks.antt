@@ -1,14 +1,22 @@
 -- Scaffolding, cited by inner contracts alone: what is drawn by a conclusion, a row that a plan meets, and a plan.
-use Rattle.std.specs.Prelude.{◌≡◌, Bool, true, false, List, ℕ, ◌≤◌, ◌<◌, length, get_or}
+use Rattle.std.specs.Prelude.{◌≡◌, Bool, true, false, List, ℕ, ◌≤◌, ◌<◌, length, get_or, Result, Ok, Err}
 use Rattle.term.specs.Term.{is_legal_term}
 use Rattle.annotation.specs.Algebra.{AtMost}
 use Rattle.annotation.specs.Kinds.{algebra}
+use Rattle.annotation.specs.Numbered.{kind_number}
+use Rattle.table.specs.declared.lent.Table.{Table}
+use Rattle.table.specs.declared.put.Done.{Done}
+use Rattle.table.specs.declared.put.Full.{Full}
 use Rattle.table.specs.Rows.{triple, Row, Lanes, row_at, rows_of}
 use Rattle.table.specs.Sound.{Sound}
+use Rattle.table.specs.Lent.{lanes_in}
+use Rattle.table.specs.Puts.{is_full, has_changed}
 use Rattle.rhodf.specs.Graph.{Graph, graph_of}
 use Rattle.rhodf.specs.Rules.{Rules, Drawn}
 use Rattle.plans.specs.declared.Plan.{Plan}
-use Rattle.plans.specs.Plans.{shape_off, shape_straight, shape_renaming, shape_behind, shape_alone, LegalPlan, Met, Obeyed}
+use Rattle.plans.specs.declared.Plan.TheVariants.{Off, Rows, Alone}
+use Rattle.plans.specs.declared.Each.{Each}
+use Rattle.plans.specs.Plans.{subject_of_each, object_of_each, LegalPlan, Met, Obeyed}
 use Rattle.walks.specs.Rising.{Above, Drew}
 
 -- a conclusion that every closed graph above the table has
@@ -29,32 +37,22 @@ abbrev pub Raised : Rules → ℕ → Row → Lanes → ℕ → Lanes → Bool �
 Raised R kind r l n m full changed n' =
     Drew R kind (OfOne r.s) (Drawn (triple r.s r.p r.o) → AtMost (algebra kind) r.a (graph_of (rows_of l n) (triple r.s r.p r.o))) l n m full changed n'
 
--- the shapes that carry a plan out, give by each row that it meets, and look behind it
-abbrev pub Known : ℕ → Type 0
-Known shape = shape ≤ shape_alone
+-- the subject of all that a plan gives
+abbrev pub OfPlan : Plan → ℕ → Type 0
+OfPlan Off x = ⊥
+OfPlan (Rows q r each) x = x ≡ subject_of_each each
+OfPlan (Alone s p) x = x ≡ s
 
-abbrev pub Once : ℕ → Type 0
-Once shape = (shape_off < shape) × (shape < shape_behind)
-
--- the predicate and the object that a row with the object z gives by a plan that meets it once
-pub record Gives (plan : Plan) (z p o : ℕ) : Type 0 where
-  pub straight : plan.shape ≡ shape_straight → (p ≡ plan.p) × (o ≡ z)
-  pub renaming : plan.shape ≡ shape_renaming → (p ≡ z) × (o ≡ plan.o)
-
-abbrev pub Beyond : ℕ → Type 0
-Beyond shape = shape ≡ shape_behind
-
--- a plan of such a shape that every closed graph above the table obeys
-pub record Planned (R : Rules) (kind : ℕ) (S : ℕ → Type 0) (plan : Plan) (a : ℕ) (l : Lanes) (n : ℕ) : Type 0 where
+-- a plan that every closed graph above the table obeys
+pub record Planned (R : Rules) (kind : ℕ) (plan : Plan) (a : ℕ) (l : Lanes) (n : ℕ) : Type 0 where
   pub sound : Sound kind l n
-  pub shaped : S plan.shape
   pub legal : LegalPlan plan
   pub value : (algebra kind).Value a
   pub sure : (H : Graph) → Above R kind (rows_of l n) H → Obeyed (algebra kind) H plan a
 
 -- it is carried out
 abbrev pub Walked : Rules → ℕ → Plan → ℕ → Lanes → ℕ → Lanes → Bool → Bool → ℕ → Type 0
-Walked R kind plan a l n m full changed n' = Drew R kind (OfOne plan.s) (Obeyed (algebra kind) (graph_of (rows_of l n)) plan a) l n m full changed n'
+Walked R kind plan a l n m full changed n' = Drew R kind (OfPlan plan) (Obeyed (algebra kind) (graph_of (rows_of l n)) plan a) l n m full changed n'
 
 -- n rows are within the two lanes
 pub record WithinTwo (subj pred : List ℕ) (n : ℕ) : Type 0 where
@@ -66,18 +64,45 @@ pub record Begins (subj pred : List ℕ) (n i q r : ℕ) (b : Bool) : Type 0 whe
   pub there : b ≡ true → (i < n) × (get_or subj i 0 ≡ q) × (get_or pred i 0 ≡ r)
   pub missing : b ≡ false → i < n → get_or subj i 0 ≡ q → get_or pred i 0 ≡ r → ⊥
 
--- row i is one that the plan meets
-pub record Meeting (R : Rules) (kind : ℕ) (S : ℕ → Type 0) (plan : Plan) (a : ℕ) (l : Lanes) (n i : ℕ) : Type 0 where
-  pub planned : Planned R kind S plan a l n
-  pub there : i < n
-  pub subject : (row_at l i).s ≡ plan.q
-  pub predicate : (row_at l i).p ≡ plan.r
+-- a plan meets a row with the object z, and every closed graph above the table has what that is to give, where the premises so far meet in c
+pub record Meeting (R : Rules) (kind : ℕ) (each : Each) (z c : ℕ) (l : Lanes) (n : ℕ) : Type 0 where
+  pub sound : Sound kind l n
+  pub subject : is_legal_term (subject_of_each each) ≡ true
+  pub object : is_legal_term (object_of_each each) ≡ true
+  pub met : is_legal_term z ≡ true
+  pub value : (algebra kind).Value c
+  pub sure : (H : Graph) → Above R kind (rows_of l n) H → Met (algebra kind) H each z c
 
--- what it is to give is at most its value
-abbrev pub RowMet : ℕ → Plan → ℕ → Lanes → ℕ → ℕ → Type 0
-RowMet kind plan a l n k =
-    (row_at l k).s ≡ plan.q → (row_at l k).p ≡ plan.r
-    → Met (algebra kind) (graph_of (rows_of l n)) plan (row_at l k).o ((algebra kind).meet a (row_at l k).a)
+-- it is at most its value
+abbrev pub MeetingDrawn : Rules → ℕ → Each → ℕ → ℕ → Lanes → ℕ → Lanes → Bool → Bool → ℕ → Type 0
+MeetingDrawn R kind each z c l n m full changed n' = Drew R kind (OfOne (subject_of_each each)) (Met (algebra kind) (graph_of (rows_of l n)) each z c) l n m full changed n'
 
-abbrev pub MeetingDrawn : Rules → ℕ → Plan → ℕ → Lanes → ℕ → ℕ → Lanes → Bool → Bool → ℕ → Type 0
-MeetingDrawn R kind plan a l n i m full changed n' = Drew R kind (OfOne plan.s) (RowMet kind plan a l n i) l n m full changed n'
+-- what row k is to give, where it begins with q and r, is at most its value
+abbrev pub RowMet : ℕ → ℕ → ℕ → Each → ℕ → Lanes → ℕ → ℕ → Type 0
+RowMet kind q r each a l n k =
+    (row_at l k).s ≡ q → (row_at l k).p ≡ r → Met (algebra kind) (graph_of (rows_of l n)) each (row_at l k).o ((algebra kind).meet a (row_at l k).a)
+
+-- ---- the same of a table that is lent to be changed: t where the call begins, and u where it ends
+
+abbrev pub ConcludedIn : Rules → Row → Table → Type 0
+ConcludedIn R r t = Concluded R (kind_number t.kind) r (lanes_in t) t.count
+
+abbrev pub RaisedIn : Rules → Row → Table → Table → Result Done Full → Type 0
+RaisedIn R r t u x = Raised R (kind_number t.kind) r (lanes_in t) t.count (lanes_in u) (is_full x) (has_changed x) u.count
+
+-- what is answered, of P over "full" and "changed": where a row found no room, nothing says what changed before
+abbrev pub Answered : (Bool → Bool → Type 0) → Result Done Full → Type 0
+Answered P (Ok d) = P false d.changed
+Answered P (Err e) = (changed : Bool) × P true changed
+
+abbrev pub PlannedIn : Rules → Plan → ℕ → Table → Type 0
+PlannedIn R plan a t = Planned R (kind_number t.kind) plan a (lanes_in t) t.count
+
+abbrev pub WalkedIn : Rules → Plan → ℕ → Table → Table → Result Done Full → Type 0
+WalkedIn R plan a t u = Answered (λ full changed. Walked R (kind_number t.kind) plan a (lanes_in t) t.count (lanes_in u) full changed u.count)
+
+abbrev pub MeetingIn : Rules → Each → ℕ → ℕ → Table → Type 0
+MeetingIn R each z c t = Meeting R (kind_number t.kind) each z c (lanes_in t) t.count
+
+abbrev pub MeetingDrawnIn : Rules → Each → ℕ → ℕ → Table → Table → Result Done Full → Type 0
+MeetingDrawnIn R each z c t u = Answered (λ full changed. MeetingDrawn R (kind_number t.kind) each z c (lanes_in t) t.count (lanes_in u) full changed u.count)

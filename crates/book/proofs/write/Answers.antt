@@ -1,49 +1,40 @@
 -- Refused, or the head and then the fields.
-use native.Mathlib.Omega.{arith}
+use Rattle.std.proofs.Common.{ap, arith}
+use Rattle.term.specs.declared.refusal.Verdict.{Verdict}
+use Rattle.term.specs.Refused.{verdict_of}
 use Rattle.table.specs.Rows.{lanes}
 use Rattle.table.proofs.Soundness.{sound-rows_within}
 use Rattle.book.proofs.Writes.{write_refused, write_sound, write_room, write_done}
 use Rattle.book.proofs.write.Goals as goal
 
-pub returns-then-verdict-gt0 : goal.returns-then-verdict-gt0
-returns-then-verdict-gt0 c =
-    let the-args = c.args in
-    let the-write-verdict = c.write_verdict-verdict in
-    let the-if1 = c.if-verdict-gt0 in
-    write_refused the-args.kind the-args.base the-args.rules (lanes the-args.subj.now the-args.pred.now the-args.obj.now the-args.ann.now) the-args.count the-args.out.now _ the-write-verdict.ensures the-if1.true
+pub returns-in-Err : goal.returns-in-Err
+returns-in-Err c = let a = c.args in rw c.number.ensures (write_refused a.kind a.base a.rules (lanes a.subj.now a.pred.now a.obj.now a.ann.now) a.count a.out.now (verdict_of c.in-Err.e) c.in-Err.ensures)
 
 pub write_head-requires : goal.write_head-requires
 write_head-requires c =
-    let the-args = c.args in
-    let the-write-verdict = c.write_verdict-verdict in
-    let the-if1 = c.if-verdict-gt0 in
-    omega (arith, write_room the-args.kind the-args.base the-args.rules (lanes the-args.subj.now the-args.pred.now the-args.obj.now the-args.ann.now) the-args.count the-args.out.now _ the-write-verdict.ensures the-if1.false)
+    let a = c.args in
+    let p = c.in-Ok.ensures in
+    rw p.rules_is (omega (arith, write_room a.kind a.base a.rules (lanes a.subj.now a.pred.now a.obj.now a.ann.now) a.count a.out.now (ap (λ (v : Verdict). v.number) p.all)))
 
 pub write_fields-requires : goal.write_fields-requires
 write_fields-requires c =
-    let the-head-size = c.head_size in
-    let the-args = c.args in
-    let the-write-verdict = c.write_verdict-verdict in
-    let the-if1 = c.if-verdict-gt0 in
-    let the-write-head = c.write_head in
-    let s = write_sound the-args.kind the-args.base the-args.rules (lanes the-args.subj.now the-args.pred.now the-args.obj.now the-args.ann.now) the-args.count the-args.out.now _ the-write-verdict.ensures the-if1.false in
-    record { rows = sound-rows_within s; bytes = omega (arith, the-head-size.ensures, the-write-head.auto.out, write_room the-args.kind the-args.base the-args.rules (lanes the-args.subj.now the-args.pred.now the-args.obj.now the-args.ann.now) the-args.count the-args.out.now _ the-write-verdict.ensures the-if1.false) }
+    let a = c.args in
+    let p = c.in-Ok.ensures in
+    let s = write_sound a.kind a.base a.rules (lanes a.subj.now a.pred.now a.obj.now a.ann.now) a.count a.out.now (ap (λ (v : Verdict). v.number) p.all) in
+    let front = rw p.rules_is at c.head_size.ensures in
+    record { rows = sound-rows_within s; bytes = omega (arith, front, c.write_head.auto.out, write_room a.kind a.base a.rules (lanes a.subj.now a.pred.now a.obj.now a.ann.now) a.count a.out.now (ap (λ (v : Verdict). v.number) p.all)) }
 
 pub book_length-requires : goal.book_length-requires
 book_length-requires c =
-    let the-args = c.args in
-    let the-write-verdict = c.write_verdict-verdict in
-    let the-if1 = c.if-verdict-gt0 in
-    let s = write_sound the-args.kind the-args.base the-args.rules (lanes the-args.subj.now the-args.pred.now the-args.obj.now the-args.ann.now) the-args.count the-args.out.now _ the-write-verdict.ensures the-if1.false in
+    let a = c.args in
+    let s = write_sound a.kind a.base a.rules (lanes a.subj.now a.pred.now a.obj.now a.ann.now) a.count a.out.now (ap (λ (v : Verdict). v.number) c.in-Ok.ensures.all) in
     omega (arith, s.within, s.long)
 
-pub returns : goal.returns
-returns c =
-    let the-head-size = c.head_size in
-    let the-args = c.args in
-    let the-write-verdict = c.write_verdict-verdict in
-    let the-if1 = c.if-verdict-gt0 in
-    let the-write-head = c.write_head in
-    let the-book-length = c.book_length in
-    let the-write-fields = c.write_fields in
-    write_done the-args.kind the-args.base the-args.rules (lanes the-args.subj.now the-args.pred.now the-args.obj.now the-args.ann.now) the-args.count the-args.out.now _ the-write-verdict.ensures the-if1.false _ _ _ _ the-write-head.ensures the-head-size.ensures the-write-fields.ensures the-book-length.ensures
+pub returns-in-Ok : goal.returns-in-Ok
+returns-in-Ok c =
+    let a = c.args in
+    let p = c.in-Ok.ensures in
+    let head = rw (p.kind_is, p.rules_is) at c.write_head.ensures in
+    let front = rw p.rules_is at c.head_size.ensures in
+    let long = rw p.rules_is at c.book_length.ensures in
+    write_done a.kind a.base a.rules (lanes a.subj.now a.pred.now a.obj.now a.ann.now) a.count a.out.now (ap (λ (v : Verdict). v.number) p.all) p.all _ _ _ _ head front c.write_fields.ensures long

@@ -1,105 +1,137 @@
 -- Not laid: known or full. Laid behind the last: known, or entered as it lies.
-use mathlib.Core.Path.{refl}
-use native.Mathlib.Omega.{arith}
-use borrow.Author.Tests.{not-true, not-false}
-use Rattle.names.specs.Names.{lanes_of, entries_of}
-use Rattle.names.specs.Entering.{known}
-use Rattle.nttext.specs.Texts.{text_of_term, sort_of_term}
-use Rattle.ntnumber.proofs.HashKept.{hashed_as, hashed_found, hashed_on}
-use Rattle.ntnumber.proofs.Numbers.{stands-few, stands-sort, laid-listing, laid-entries, laid-after, laid-room, laid-room_start, numbered-unlaid, numbered-listed, numbered-entered}
-use borrow.Author.Rules.{rules}
+use Rattle.std.proofs.Common.{refl, ◌∙◌}
+use Rattle.names.specs.Names.{entries_of}
+use Rattle.ntnumber.specs.Lent.{list_in}
+use Rattle.ntnumber.proofs.HashKept.{found_told, told-names, hashed_as, hashed_on}
+use Rattle.ntnumber.proofs.Numbers.{stands-few, stands-sort, laid-listing, laid-entries, laid-after, laid-within, laid-room_start, numbered-unlaid, numbered-listed, numbered-entered}
 use Rattle.ntnumber.proofs.number_of.Goals as goal
-
-pub lay_term-laid-requires : goal.lay_term-laid-requires
-lay_term-laid-requires c =
-    let the-pre = c.requires in
-    let the-start-of = c.start_of-from in
-    (the-pre.0.within, omega (arith, the-start-of.ensures, the-pre.0.listing.last), the-pre.0.stands)
 
 pub number_in_place-requires : goal.number_in_place-requires
 number_in_place-requires c =
-    let the-pre = c.requires in
-    let the-args = c.args in
-    let the-start-of = c.start_of-from in
-    let the-lay-term = c.lay_term-laid in
-    record { within = the-pre.0.within; stands = the-pre.0.stands; listing = laid-listing (lanes_of the-args.terms.now the-args.ends.now the-args.text.now) the-args.names the-pre.0.listing the-pre.0.stands.term (stands-few the-args.b.now the-args.end the-args.t the-pre.0.stands.term the-pre.0.stands.stands) _ _ _ _ the-start-of.ensures (the-lay-term.ensures the-pre.0.stands.term the-pre.0.stands.stands) }
+    let l = list_in c.args.list.now in
+    let names = c.args.list.now.count in
+    let into = c.requires.into in
+    let few = stands-few c.args.b.now c.args.end c.args.t in
+    let y = into.stands.term in
+    let t = into.stands.stands in
+    let v = c.lanes.ensures in
+    rw (v.same_terms, v.same_ends, v.same_text, v.same_count) (record { within = into.within; stands = into.stands; listing = laid-listing l names into.listing y (few y t) _ _ _ _ c.end-from.ensures (c.in_default.ensures y t) })
 
-pub returns-then-not-laid : goal.returns-then-not-laid
-returns-then-not-laid c =
-    let the-args = c.args in
-    let the-pre = c.requires in
-    let the-start-of = c.start_of-from in
-    let the-lay-term = c.lay_term-laid in
-    let the-if1 = c.if-not-laid in
-    let the-number-in-place = c.number_in_place in (
-      (λ x s. numbered-unlaid (lanes_of the-args.terms.now the-args.ends.now the-args.text.now) the-args.names the-pre.0.listing x (stands-few the-args.b.now the-args.end the-args.t x s) _ _ _ _ the-start-of.ensures (the-lay-term.ensures x s) (not-true _ the-if1.true) _ (the-number-in-place.ensures x s)),
-      hashed_found (lanes_of the-args.terms.now the-args.ends.now _) the-args.names (known (entries_of (lanes_of the-args.terms.now the-args.ends.now _) the-args.names) (sort_of_term the-pre.0.stands.term) (text_of_term the-pre.0.stands.term)) _ _ _ (the-number-in-place.ensures the-pre.0.stands.term the-pre.0.stands.stands) (hashed_as (entries_of (lanes_of the-args.terms.now the-args.ends.now the-args.text.now) the-args.names) _ _ _ _ _ (laid-entries (lanes_of the-args.terms.now the-args.ends.now the-args.text.now) the-args.names the-pre.0.listing the-pre.0.stands.term (stands-few the-args.b.now the-args.end the-args.t the-pre.0.stands.term the-pre.0.stands.stands) _ _ _ _ the-start-of.ensures (the-lay-term.ensures the-pre.0.stands.term the-pre.0.stands.stands)) refl refl the-pre.1),
-    )
+pub returns-in_default-clause-numbered : goal.returns-in_default-clause-numbered
+returns-in_default-clause-numbered c =
+    let l = list_in c.args.list.now in
+    let names = c.args.list.now.count in
+    let into = c.requires.into in
+    let few = stands-few c.args.b.now c.args.end c.args.t in
+    let v = c.lanes.ensures in
+    λ x s. rw (found_told names c.number_in_place.result) at (numbered-unlaid l names into.listing x (few x s) _ _ _ _ c.end-from.ensures (c.in_default.ensures x s) refl c.number_in_place.result (rw (v.same_terms, v.same_ends, v.same_text, v.same_count) at (c.number_in_place.ensures x s)))
 
-pub overflow_sub-size : goal.overflow_sub-size
-overflow_sub-size c =
-    let the-args = c.args in
-    let the-pre = c.requires in
-    let the-start-of = c.start_of-from in
-    let the-lay-term = c.lay_term-laid in
-    let the-if1 = c.if-not-laid in
-    laid-after (lanes_of the-args.terms.now the-args.ends.now the-args.text.now) the-args.names the-pre.0.listing the-pre.0.stands.term (stands-few the-args.b.now the-args.end the-args.t the-pre.0.stands.term the-pre.0.stands.stands) _ _ _ _ the-start-of.ensures (the-lay-term.ensures the-pre.0.stands.term the-pre.0.stands.stands) (not-false _ the-if1.false)
+pub returns-in_default-clause-hashed : goal.returns-in_default-clause-hashed
+returns-in_default-clause-hashed c =
+    let l = list_in c.args.list.now in
+    let names = c.args.list.now.count in
+    let into = c.requires.into in
+    let few = stands-few c.args.b.now c.args.end c.args.t in
+    let y = into.stands.term in
+    let t = into.stands.stands in
+    hashed_as (entries_of l names) _ _ _ _ _ (laid-entries l names into.listing y (few y t) _ _ _ _ c.end-from.ensures (c.in_default.ensures y t)) refl refl c.requires.hashed
 
-pub lying_hash-h-requires : goal.lying_hash-h-requires
-lying_hash-h-requires c =
-    let the-args = c.args in
-    let the-pre = c.requires in
-    let the-start-of = c.start_of-from in
-    let the-lay-term = c.lay_term-laid in
-    let the-if1 = c.if-not-laid in
-    laid-room (lanes_of the-args.terms.now the-args.ends.now the-args.text.now) the-args.names the-pre.0.listing the-pre.0.stands.term (stands-few the-args.b.now the-args.end the-args.t the-pre.0.stands.term the-pre.0.stands.stands) _ _ _ _ the-start-of.ensures (the-lay-term.ensures the-pre.0.stands.term the-pre.0.stands.stands) (not-false _ the-if1.false) _ refl
+pub slice_bounds-word-count : goal.slice_bounds-word-count
+slice_bounds-word-count c =
+    let l = list_in c.args.list.now in
+    let names = c.args.list.now.count in
+    let into = c.requires.into in
+    let few = stands-few c.args.b.now c.args.end c.args.t in
+    let y = into.stands.term in
+    let t = into.stands.stands in
+    laid-after l names into.listing y (few y t) _ _ _ _ c.end-from.ensures (c.in-Some.ensures y t) refl
 
-pub lying_number-found-requires : goal.lying_number-found-requires
-lying_number-found-requires c =
-    let the-args = c.args in
-    let the-pre = c.requires in
-    let the-start-of = c.start_of-from in
-    let the-lay-term = c.lay_term-laid in
-    let the-if1 = c.if-not-laid in
-    let the-lying-hash = c.lying_hash-h in
-    (laid-listing (lanes_of the-args.terms.now the-args.ends.now the-args.text.now) the-args.names the-pre.0.listing the-pre.0.stands.term (stands-few the-args.b.now the-args.end the-args.t the-pre.0.stands.term the-pre.0.stands.stands) _ _ _ _ the-start-of.ensures (the-lay-term.ensures the-pre.0.stands.term the-pre.0.stands.stands), hashed_as (entries_of (lanes_of the-args.terms.now the-args.ends.now the-args.text.now) the-args.names) _ _ _ _ _ (laid-entries (lanes_of the-args.terms.now the-args.ends.now the-args.text.now) the-args.names the-pre.0.listing the-pre.0.stands.term (stands-few the-args.b.now the-args.end the-args.t the-pre.0.stands.term the-pre.0.stands.stands) _ _ _ _ the-start-of.ensures (the-lay-term.ensures the-pre.0.stands.term the-pre.0.stands.stands)) refl refl the-pre.1, laid-room (lanes_of the-args.terms.now the-args.ends.now the-args.text.now) the-args.names the-pre.0.listing the-pre.0.stands.term (stands-few the-args.b.now the-args.end the-args.t the-pre.0.stands.term the-pre.0.stands.stands) _ _ _ _ the-start-of.ensures (the-lay-term.ensures the-pre.0.stands.term the-pre.0.stands.stands) (not-false _ the-if1.false) _ refl, the-lying-hash.ensures.0, the-lying-hash.ensures.1)
+pub slice_bounds-word-start : goal.slice_bounds-word-start
+slice_bounds-word-start c =
+    let l = list_in c.args.list.now in
+    let names = c.args.list.now.count in
+    let into = c.requires.into in
+    let few = stands-few c.args.b.now c.args.end c.args.t in
+    let y = into.stands.term in
+    let t = into.stands.stands in
+    laid-after l names into.listing y (few y t) _ _ _ _ c.end-from.ensures (c.in-Some.ensures y t) refl
 
-pub entered-requires : goal.entered-requires
-entered-requires c =
-    let the-args = c.args in
-    let the-pre = c.requires in
-    let the-start-of = c.start_of-from in
-    let the-lay-term = c.lay_term-laid in
-    let the-if1 = c.if-not-laid in
-    let the-lying-hash = c.lying_hash-h in
-    (laid-listing (lanes_of the-args.terms.now the-args.ends.now the-args.text.now) the-args.names the-pre.0.listing the-pre.0.stands.term (stands-few the-args.b.now the-args.end the-args.t the-pre.0.stands.term the-pre.0.stands.stands) _ _ _ _ the-start-of.ensures (the-lay-term.ensures the-pre.0.stands.term the-pre.0.stands.stands), laid-room_start (lanes_of the-args.terms.now the-args.ends.now the-args.text.now) the-args.names the-pre.0.listing the-pre.0.stands.term (stands-few the-args.b.now the-args.end the-args.t the-pre.0.stands.term the-pre.0.stands.stands) _ _ _ _ the-start-of.ensures (the-lay-term.ensures the-pre.0.stands.term the-pre.0.stands.stands) (not-false _ the-if1.false) _ refl, the-pre.1.heads_long, the-pre.1.next_long, the-lying-hash.ensures.1)
+pub slice_bounds-word-end : goal.slice_bounds-word-end
+slice_bounds-word-end c =
+    let l = list_in c.args.list.now in
+    let names = c.args.list.now.count in
+    let into = c.requires.into in
+    let few = stands-few c.args.b.now c.args.end c.args.t in
+    let y = into.stands.term in
+    let t = into.stands.stands in
+    rw c.lanes-l.ensures.same_text (laid-within l names into.listing y (few y t) _ _ _ _ c.end-from.ensures (c.in-Some.ensures y t) refl)
 
-pub returns-in-Number : goal.returns-in-Number
-returns-in-Number c =
-    let the-args = c.args in
-    let the-pre = c.requires in
-    let the-start-of = c.start_of-from in
-    let the-lay-term = c.lay_term-laid in
-    let the-if1 = c.if-not-laid in (
-      (λ x s. numbered-listed (lanes_of the-args.terms.now the-args.ends.now the-args.text.now) the-args.names the-pre.0.listing x (stands-few the-args.b.now the-args.end the-args.t x s) _ _ _ _ the-start-of.ensures (the-lay-term.ensures x s) (not-false _ the-if1.false) _ refl _ (stands-sort the-args.b.now the-args.end the-args.t x s) _ c.in-Number.ensures _ refl),
-      hashed_as (entries_of (lanes_of the-args.terms.now the-args.ends.now the-args.text.now) the-args.names) _ _ _ _ _ (laid-entries (lanes_of the-args.terms.now the-args.ends.now the-args.text.now) the-args.names the-pre.0.listing the-pre.0.stands.term (stands-few the-args.b.now the-args.end the-args.t the-pre.0.stands.term the-pre.0.stands.stands) _ _ _ _ the-start-of.ensures (the-lay-term.ensures the-pre.0.stands.term the-pre.0.stands.stands)) refl refl the-pre.1,
-    )
+pub number_by_hash-requires : goal.number_by_hash-requires
+number_by_hash-requires c =
+    let l = list_in c.args.list.now in
+    let names = c.args.list.now.count in
+    let into = c.requires.into in
+    let few = stands-few c.args.b.now c.args.end c.args.t in
+    let y = into.stands.term in
+    let t = into.stands.stands in
+    let v = c.lanes-l.ensures in
+    rw (v.same_terms, v.same_ends, v.same_text, v.same_count, v.same_heads, v.same_next) (laid-listing l names into.listing y (few y t) _ _ _ _ c.end-from.ensures (c.in-Some.ensures y t), hashed_as (entries_of l names) _ _ _ _ _ (laid-entries l names into.listing y (few y t) _ _ _ _ c.end-from.ensures (c.in-Some.ensures y t)) refl refl c.requires.hashed, rw v.same_text at c.hash-h.ensures.0, c.hash-h.ensures.1)
 
-pub shape_of-text-in-Missing : goal.shape_of-text-in-Missing
-shape_of-text-in-Missing c =
-    let the-lay-term = c.lay_term-laid in
-    let the-pre = c.requires in
-    (the-lay-term.ensures the-pre.0.stands.term the-pre.0.stands.stands).as_long
+pub overflow_sub-to : goal.overflow_sub-to
+overflow_sub-to c =
+    let l = list_in c.args.list.now in
+    let names = c.args.list.now.count in
+    let into = c.requires.into in
+    let few = stands-few c.args.b.now c.args.end c.args.t in
+    let y = into.stands.term in
+    let t = into.stands.stands in
+    laid-after l names into.listing y (few y t) _ _ _ _ c.end-from.ensures (c.in-Some.ensures y t) refl
 
-pub returns-in-Missing : goal.returns-in-Missing
-returns-in-Missing c =
-    let the-args = c.args in
-    let the-pre = c.requires in
-    let the-start-of = c.start_of-from in
-    let the-lay-term = c.lay_term-laid in
-    let the-if1 = c.if-not-laid in
-    let the-entered = c.entered in
-    let the-lying-hash = c.lying_hash-h in (
-      (λ x s. numbered-entered (lanes_of the-args.terms.now the-args.ends.now the-args.text.now) the-args.names the-pre.0.listing x (stands-few the-args.b.now the-args.end the-args.t x s) _ _ _ _ the-start-of.ensures (the-lay-term.ensures x s) (not-false _ the-if1.false) _ refl _ (stands-sort the-args.b.now the-args.end the-args.t x s) _ c.in-Missing.ensures _ _ (record { same_terms = search rules; same_ends = search rules; same_text = refl }) the-entered.ensures.0),
-      hashed_on _ _ _ _ _ _ _ _ _ _ _ the-entered.ensures.0 the-entered.ensures.1 (hashed_as (entries_of (lanes_of the-args.terms.now the-args.ends.now the-args.text.now) the-args.names) _ _ _ _ _ (laid-entries (lanes_of the-args.terms.now the-args.ends.now the-args.text.now) the-args.names the-pre.0.listing the-pre.0.stands.term (stands-few the-args.b.now the-args.end the-args.t the-pre.0.stands.term the-pre.0.stands.stands) _ _ _ _ the-start-of.ensures (the-lay-term.ensures the-pre.0.stands.term the-pre.0.stands.stands)) refl refl the-pre.1) _ the-start-of.ensures the-lying-hash.ensures.0 the-lying-hash.ensures.1,
-    )
+pub enter-requires : goal.enter-requires
+enter-requires c =
+    let l = list_in c.args.list.now in
+    let names = c.args.list.now.count in
+    let into = c.requires.into in
+    let few = stands-few c.args.b.now c.args.end c.args.t in
+    let y = into.stands.term in
+    let t = into.stands.stands in
+    (laid-listing l names into.listing y (few y t) _ _ _ _ c.end-from.ensures (c.in-Some.ensures y t), laid-room_start l names into.listing y (few y t) _ _ _ _ c.end-from.ensures (c.in-Some.ensures y t) refl _ refl, c.requires.hashed.heads_long, c.requires.hashed.next_long, c.hash-h.ensures.1)
+
+pub returns-in-Ok-clause-numbered : goal.returns-in-Ok-clause-numbered
+returns-in-Ok-clause-numbered c =
+    let l = list_in c.args.list.now in
+    let names = c.args.list.now.count in
+    let into = c.requires.into in
+    let few = stands-few c.args.b.now c.args.end c.args.t in
+    let v = c.lanes-l.ensures in
+    λ x s. numbered-listed l names into.listing x (few x s) _ _ _ _ c.end-from.ensures (c.in-Some.ensures x s) refl _ refl _ (c.sort_number-sort.ensures ∙ stands-sort c.args.b.now c.args.end c.args.t x s) _ (rw (v.same_terms, v.same_ends, v.same_text, v.same_count) at c.in-Ok.ensures) _ refl
+
+pub returns-in-Ok-clause-hashed : goal.returns-in-Ok-clause-hashed
+returns-in-Ok-clause-hashed c =
+    let l = list_in c.args.list.now in
+    let names = c.args.list.now.count in
+    let into = c.requires.into in
+    let few = stands-few c.args.b.now c.args.end c.args.t in
+    let y = into.stands.term in
+    let t = into.stands.stands in
+    hashed_as (entries_of l names) _ _ _ _ _ (laid-entries l names into.listing y (few y t) _ _ _ _ c.end-from.ensures (c.in-Some.ensures y t)) refl refl c.requires.hashed
+
+pub returns-in-Err-clause-numbered : goal.returns-in-Err-clause-numbered
+returns-in-Err-clause-numbered c =
+    let l = list_in c.args.list.now in
+    let names = c.args.list.now.count in
+    let into = c.requires.into in
+    let few = stands-few c.args.b.now c.args.end c.args.t in
+    let v = c.lanes-l.ensures in
+    λ x s. numbered-entered l names into.listing x (few x s) _ _ _ _ c.end-from.ensures (c.in-Some.ensures x s) refl _ refl _ (c.sort_number-sort.ensures ∙ stands-sort c.args.b.now c.args.end c.args.t x s) _ (rw (v.same_terms, v.same_ends, v.same_text, v.same_count) at c.in-Err.ensures) _ _ c.enter.ensures.as_long c.enter.ensures.lying
+
+pub returns-in-Err-clause-hashed : goal.returns-in-Err-clause-hashed
+returns-in-Err-clause-hashed c =
+    let l = list_in c.args.list.now in
+    let names = c.args.list.now.count in
+    let into = c.requires.into in
+    let few = stands-few c.args.b.now c.args.end c.args.t in
+    let y = into.stands.term in
+    let t = into.stands.stands in
+    let v = c.lanes-l.ensures in
+    rw (told-names c.enter.new.self.count c.enter.result) at (hashed_on _ _ _ _ _ _ _ _ _ _ _ c.enter.ensures.lying c.enter.ensures.hashed (hashed_as (entries_of l names) _ _ _ _ _ (laid-entries l names into.listing y (few y t) _ _ _ _ c.end-from.ensures (c.in-Some.ensures y t)) refl refl c.requires.hashed) _ c.end-from.ensures (rw v.same_text at c.hash-h.ensures.0) c.hash-h.ensures.1)

@@ -1,54 +1,31 @@
 -- Refused by what is lent, or as the lines read into lanes of zeros.
+use Rattle.std.proofs.Common.{rules, refl, sym, ◌∙◌, arith}
+use Rattle.term.proofs.Handing.{refusal_numbered}
 use Rattle.table.specs.Rows.{lanes}
 use Rattle.names.specs.Names.{lanes_of}
-use Rattle.ntread.proofs.Whole.{kept-lanes, kept-long, wiped_refused, wiped_fresh, wiped_read}
+use Rattle.ntread.proofs.Whole.{kept_refused, wiped_refused, wiped_fresh, wiped_read}
 use Rattle.ntread.proofs.read_triples.Goals as goal
 
-pub returns-then-number-eq-LANES_UNFIT : goal.returns-then-number-eq-LANES_UNFIT
-returns-then-number-eq-LANES_UNFIT c =
-    let the-args = c.args in
-    let the-lent-refusal = c.lent_refusal-number in
-    let the-if1 = c.if-number-eq-LANES_UNFIT in
-    let the-refused = c.refused in
-    kept-lanes the-args.kind the-args.a the-args.file.now (lanes the-args.subj.now the-args.pred.now the-args.obj.now the-args.ann.now) (lanes_of the-args.terms.now the-args.ends.now the-args.text.now) _ the-lent-refusal.ensures the-if1.true _ the-refused.ensures
+pub returns-then-keeps : goal.returns-then-keeps
+returns-then-keeps c =
+    let a = c.args in
+    kept_refused a.kind a.a a.file.now (lanes a.subj.now a.pred.now a.obj.now a.ann.now) (lanes_of a.terms.now a.ends.now a.text.now) _ c.in-Err.ensures.judged (refusal_numbered c.in-Err.why)
+    (sym c.keeps.ensures ∙ c.if-keeps.true) _ (rw c.at.ensures at c.refused.ensures)
 
-pub returns-then-number-eq-TOO_LONG : goal.returns-then-number-eq-TOO_LONG
-returns-then-number-eq-TOO_LONG c =
-    let the-args = c.args in
-    let the-lent-refusal = c.lent_refusal-number in
-    let the-if1 = c.if-number-eq-LANES_UNFIT in
-    let the-if2 = c.if-number-eq-TOO_LONG in
-    let the-refused2 = c.refused-then-number-eq-TOO_LONG in
-    kept-long the-args.kind the-args.a the-args.file.now (lanes the-args.subj.now the-args.pred.now the-args.obj.now the-args.ann.now) (lanes_of the-args.terms.now the-args.ends.now the-args.text.now) _ the-lent-refusal.ensures the-if1.false the-if2.true _ the-refused2.ensures
+pub returns-else-keeps : goal.returns-else-keeps
+returns-else-keeps c =
+    let a = c.args in
+    wiped_refused a.kind a.a a.file.now (lanes a.subj.now a.pred.now a.obj.now a.ann.now) (lanes_of a.terms.now a.ends.now a.text.now) _ c.in-Err.ensures.judged
+    (sym c.keeps.ensures ∙ c.if-keeps.false) (refusal_numbered c.in-Err.why) _ _ (search rules, c.wipe_names.ensures) _ (rw c.at-in-Err.ensures at c.refused-in-Err.ensures)
 
-pub returns-then-number-gt0 : goal.returns-then-number-gt0
-returns-then-number-gt0 c =
-    let the-args = c.args in
-    let the-lent-refusal = c.lent_refusal-number in
-    let the-if1 = c.if-number-eq-LANES_UNFIT in
-    let the-if2 = c.if-number-eq-TOO_LONG in
-    let the-if3 = c.if-number-gt0 in
-    let the-wipe-all = c.wipe_all in
-    let the-refused3 = c.refused-then-number-gt0 in
-    wiped_refused the-args.kind the-args.a the-args.file.now (lanes the-args.subj.now the-args.pred.now the-args.obj.now the-args.ann.now) (lanes_of the-args.terms.now the-args.ends.now the-args.text.now) _ the-lent-refusal.ensures the-if1.false the-if2.false the-if3.true _ _ the-wipe-all.ensures _ the-refused3.ensures
+pub read_lanes-requires : goal.read_lanes-requires
+read_lanes-requires c =
+    let a = c.args in
+    rw c.in-Ok.ensures.known
+    (wiped_fresh a.kind a.a a.file.now (lanes a.subj.now a.pred.now a.obj.now a.ann.now) (lanes_of a.terms.now a.ends.now a.text.now) 0 c.in-Ok.ensures.judged refl (omega arith))
 
-pub read_new-requires : goal.read_new-requires
-read_new-requires c =
-    let the-wipe-all = c.wipe_all in
-    let the-args = c.args in
-    let the-lent-refusal = c.lent_refusal-number in
-    let the-if1 = c.if-number-eq-LANES_UNFIT in
-    let the-if2 = c.if-number-eq-TOO_LONG in
-    let the-if3 = c.if-number-gt0 in
-    rw (the-wipe-all.ensures.0, the-wipe-all.ensures.1) (wiped_fresh the-args.kind the-args.a the-args.file.now (lanes the-args.subj.now the-args.pred.now the-args.obj.now the-args.ann.now) (lanes_of the-args.terms.now the-args.ends.now the-args.text.now) _ the-lent-refusal.ensures the-if1.false the-if2.false the-if3.false)
-
-pub returns : goal.returns
-returns c =
-    let the-args = c.args in
-    let the-lent-refusal = c.lent_refusal-number in
-    let the-if1 = c.if-number-eq-LANES_UNFIT in
-    let the-if2 = c.if-number-eq-TOO_LONG in
-    let the-if3 = c.if-number-gt0 in
-    let the-wipe-all = c.wipe_all in
-    let the-read-new = c.read_new in
-    wiped_read the-args.kind the-args.a the-args.file.now (lanes the-args.subj.now the-args.pred.now the-args.obj.now the-args.ann.now) (lanes_of the-args.terms.now the-args.ends.now the-args.text.now) _ the-lent-refusal.ensures the-if1.false the-if2.false the-if3.false _ _ _ _ _ the-wipe-all.ensures the-read-new.ensures
+pub returns-in-Ok : goal.returns-in-Ok
+returns-in-Ok c =
+    let a = c.args in
+    wiped_read a.kind a.a a.file.now (lanes a.subj.now a.pred.now a.obj.now a.ann.now) (lanes_of a.terms.now a.ends.now a.text.now) 0 c.in-Ok.ensures.judged refl (omega arith)
+    _ _ _ _ _ (refl, refl) (rw c.in-Ok.ensures.known at c.read_lanes.ensures)

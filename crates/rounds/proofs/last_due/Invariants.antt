@@ -1,11 +1,6 @@
--- The invariant: what is promised, of the rows passed.
-use Rattle.rounds.specs.Due.{LastDue}
+-- The invariant: the rows passed are not due.
+use Rattle.rounds.specs.Due.{EachFrom, StillAt}
 use Rattle.rounds.proofs.last_due.Given as goal
 
 abbrev pub invariant-loop-i : goal.invariant-loop-i
-invariant-loop-i l =
-    LastDue l.subj l.pred l.obj l.from l.due l.i
-
-abbrev pub decreases-loop-i : goal.decreases-loop-i
-decreases-loop-i l =
-    l.i
+invariant-loop-i l = EachFrom (StillAt l.rows.subj.now l.rows.pred.now l.rows.obj.now l.due) l.i l.from

@@ -1,23 +1,12 @@
-use Rattle.rounds.proofs.Marking.{next-none, next-on}
+-- What `find` says of the rows.
+use Rattle.std.proofs.Common.{rules}
+use Rattle.std.proofs.lemmas.Iterator.{first_from_Range}
+use Rattle.rounds.specs.Due.{StillAt}
+use Rattle.rounds.proofs.Marking.{next-found}
 use Rattle.rounds.proofs.next_due.Goals as goal
-
-pub loop-i-init : goal.loop-i-init
-loop-i-init c =
-    next-none _ _ _ _ _
-
-pub returns-then-meets : goal.returns-then-meets
-returns-then-meets c =
-    let the-loop = c.loop-i in
-    the-loop.invariant
-
-pub loop-i-preserved : goal.loop-i-preserved
-loop-i-preserved c =
-    let the-loop = c.loop-i in
-    let the-meets = c.meets in
-    let the-if1 = c.if-meets in
-    next-on _ _ _ the-loop.invariant (the-meets.ensures.none the-if1.false)
 
 pub returns : goal.returns
 returns c =
-    let the-loop = c.loop-i in
-    the-loop.invariant
+    let t = c.args.rows.now in
+    let due = StillAt t.subj.now t.pred.now t.obj.now c.args.due.now in
+    next-found due _ _ _ (first_from_Range _ _ _ _ (λ _. Unit {0}) due c.find.ensures.ran (λ x q k. tt) (λ x q k. search rules))

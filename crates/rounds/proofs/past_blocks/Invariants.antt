@@ -1,12 +1,10 @@
 -- The invariant: what is promised, of the rows passed.
-use Prim.Native.Nat.{◌-◌}
-use Rattle.rounds.specs.Due.{NextOf}
+use Rattle.std.proofs.Common.{◌-◌}
+use Rattle.rounds.specs.Due.{PastOf}
 use Rattle.rounds.proofs.past_blocks.Given as goal
 
 abbrev pub invariant-loop-i : goal.invariant-loop-i
-invariant-loop-i l =
-    NextOf l.subj l.pred l.obj l.from l.one l.i
+invariant-loop-i l = PastOf l.rows.subj.now l.rows.pred.now l.rows.obj.now l.from l.one l.i
 
 abbrev pub decreases-loop-i : goal.decreases-loop-i
-decreases-loop-i l =
-    l.count - l.i
+decreases-loop-i l = l.rows.count - l.i

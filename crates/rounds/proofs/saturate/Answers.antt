@@ -1,97 +1,33 @@
-use mathlib.Core.Path.{◌∙◌}
-use Prim.Native.Nat.{ℕ}
-use lib.ListN.{length-replicate}
-use native.Mathlib.Omega.{arith}
+use Rattle.std.proofs.Common.{arith, rules}
+use Rattle.std.proofs.lemmas.Result.{err_from_is_err_and}
 use Rattle.plans.proofs.Obeying.{set-driven}
-use Rattle.rounds.proofs.Rounding.{rows_of-three, sweeps_start, sweep_due, sweeps_go_on, sweeps_full, sweeps_end, sweeps_settled}
+use Rattle.rounds.proofs.Rounding.{by_set, all_due, sweep_due, settled-more, full-then, settled-then}
 use Rattle.rounds.proofs.saturate.Goals as goal
 
-pub loop-due-init : goal.loop-due-init
-loop-due-init c =
-    let the-args = c.args in
-    let the-pre = c.requires in
-    sweeps_start (set-driven the-args.rules) the-pre (length-replicate {A = ℕ} 1024 0) (omega arith)
+pub round-requires : goal.round-requires
+round-requires c = rw c.all.ensures (all_due (set-driven c.args.rules) (omega arith) c.requires)
 
-pub round-last-requires : goal.round-last-requires
-round-last-requires c =
-    let the-args = c.args in
-    let the-loop = c.loop-due in
-    (sweep_due (set-driven the-args.rules) the-loop.invariant (omega arith), the-loop.invariant.sets)
+pub round-requires-in-loop-turn : goal.round-requires-in-loop-turn
+round-requires-in-loop-turn c =
+    let r = c.rows.ensures in
+    let spread = rw (r.same_subj, r.same_pred, r.same_obj, r.same_count) at c.spread.ensures in
+    let i = c.loop-turn.invariant in
+    rw i.kept.same_kind (sweep_due (set-driven c.args.rules) i.settling (by_set c.loop-turn.turn-index) spread)
 
-pub returns-then-last : goal.returns-then-last
-returns-then-last c =
-    let the-args = c.args in
-    let the-loop = c.loop-due in
-    let the-round = c.round-last in
-    let the-if1 = c.if-last in
-    sweeps_full (set-driven the-args.rules) the-loop.invariant the-round.ensures the-if1.true
+pub returns-in_err-last-2-clause-saturated : goal.returns-in_err-last-2-clause-saturated
+returns-in_err-last-2-clause-saturated c =
+    let p = err_from_is_err_and c.from_residual-in_err-last-2.result c.from_residual-in_err-last-2.ensures.1 in
+    let i = c.loop-turn.invariant in
+    let drawn = rw i.kept.same_kind at c.in_err-last-2.ensures.drawn in
+    rw p.1 (full-then (set-driven c.args.rules) i.settling drawn.1)
 
-pub fewer-left-requires : goal.fewer-left-requires
-fewer-left-requires c =
-    let the-loop = c.loop-due in
-    the-loop.invariant.some
+pub loop-turn-preserved : goal.loop-turn-preserved
+loop-turn-preserved c =
+    let i = c.loop-turn.invariant in
+    let drawn = rw i.kept.same_kind at c.in_ok-last-2.ensures.drawn in
+    record { kept = search rules; settling = settled-more (set-driven c.args.rules) i.settling drawn }
 
-pub settle-requires : goal.settle-requires
-settle-requires c =
-    let the-args = c.args in
-    let the-loop = c.loop-due in
-    let the-round = c.round-last in
-    let the-if1 = c.if-last in
-    sweeps_end (set-driven the-args.rules) the-loop.invariant the-round.ensures the-if1.false
-
-pub shape_of-subj-then-left-eq0 : goal.shape_of-subj-then-left-eq0
-shape_of-subj-then-left-eq0 c =
-    let the-settle = c.settle in
-    let the-round = c.round-last in
-    let the-loop = c.loop-due in
-    the-settle.ensures.risen.as_long.same_subj ∙ the-round.ensures.risen.as_long.same_subj ∙ the-loop.invariant.risen.as_long.same_subj
-
-pub shape_of-pred-then-left-eq0 : goal.shape_of-pred-then-left-eq0
-shape_of-pred-then-left-eq0 c =
-    let the-settle = c.settle in
-    let the-round = c.round-last in
-    let the-loop = c.loop-due in
-    the-settle.ensures.risen.as_long.same_pred ∙ the-round.ensures.risen.as_long.same_pred ∙ the-loop.invariant.risen.as_long.same_pred
-
-pub shape_of-obj-then-left-eq0 : goal.shape_of-obj-then-left-eq0
-shape_of-obj-then-left-eq0 c =
-    let the-settle = c.settle in
-    let the-round = c.round-last in
-    let the-loop = c.loop-due in
-    the-settle.ensures.risen.as_long.same_obj ∙ the-round.ensures.risen.as_long.same_obj ∙ the-loop.invariant.risen.as_long.same_obj
-
-pub shape_of-ann-then-left-eq0 : goal.shape_of-ann-then-left-eq0
-shape_of-ann-then-left-eq0 c =
-    let the-settle = c.settle in
-    let the-round = c.round-last in
-    let the-loop = c.loop-due in
-    the-settle.ensures.risen.as_long.same_ann ∙ the-round.ensures.risen.as_long.same_ann ∙ the-loop.invariant.risen.as_long.same_ann
-
-pub returns-then-left-eq0 : goal.returns-then-left-eq0
-returns-then-left-eq0 c =
-    let the-args = c.args in
-    let the-loop = c.loop-due in
-    let the-round = c.round-last in
-    let the-if1 = c.if-last in
-    let the-settle = c.settle in
-    sweeps_settled (set-driven the-args.rules) the-loop.invariant the-round.ensures the-if1.false the-settle.ensures
-
-pub spread-requires : goal.spread-requires
-spread-requires c =
-    let the-round = c.round-last in
-    (rows_of-three the-round.ensures.risen.sound, the-round.ensures.sets.rose_long)
-
-pub loop-due-smaller : goal.loop-due-smaller
-loop-due-smaller c =
-    let the-fewer = c.fewer-left in
-    the-fewer.ensures
-
-pub loop-due-preserved : goal.loop-due-preserved
-loop-due-preserved c =
-    let the-args = c.args in
-    let the-loop = c.loop-due in
-    let the-round = c.round-last in
-    let the-if1 = c.if-last in
-    let the-spread = c.spread in
-    let the-if2 = c.if-left-eq0 in
-    sweeps_go_on (set-driven the-args.rules) the-loop.invariant the-round.ensures the-if1.false the-spread.ensures (length-replicate {A = ℕ} 1024 0) (omega (arith, the-if2.false))
+pub returns-clause-saturated : goal.returns-clause-saturated
+returns-clause-saturated c =
+    let i = c.loop-turn.invariant in
+    settled-then (set-driven c.args.rules) c.args.table.now c.loop-turn.table c.settle.new.table i.kept.same_kind i.settling _ c.settle.ensures.saturated

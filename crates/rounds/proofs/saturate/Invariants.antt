@@ -1,14 +1,15 @@
--- The invariant: the table has risen, and a row that is not due obeys its plans; the measure: how many sweeps are left.
-use Rattle.table.specs.Rows.{lanes}
+-- The invariant: what the sweeps have done.
+use Rattle.annotation.specs.Numbered.{kind_number}
+use Rattle.table.specs.Lent.{lanes_in, Kept}
 use Rattle.rhodf.specs.Rules.{rules_of}
 use Rattle.plans.specs.Plans.{plans_for}
-use Rattle.rounds.proofs.Rounding.{Swept}
+use Rattle.rounds.proofs.Rounding.{Settling}
 use Rattle.rounds.proofs.saturate.Given as goal
 
-abbrev pub invariant-loop-due : goal.invariant-loop-due
-invariant-loop-due l =
-    Swept (rules_of l.rules) (plans_for l.rules) l.kind (lanes l.initial.subj l.initial.pred l.initial.obj l.initial.ann) l.count (lanes l.subj l.pred l.obj l.ann) l.n l.due l.rose l.left
-
-abbrev pub decreases-loop-due : goal.decreases-loop-due
-decreases-loop-due l =
-    l.left
+abbrev pub invariant-loop-turn : goal.invariant-loop-turn
+invariant-loop-turn l =
+    let t = l.fn.table in
+    record {
+      kept : Kept t l.table;
+      settling : Settling (rules_of l.rules) (plans_for l.rules) (kind_number t.kind) (lanes_in t) t.count (lanes_in l.table) l.table.count l.sets.rose;
+    }

@@ -1,44 +1,13 @@
--- Refused by the table, by the triple, or as `put_row` finds room.
+-- No such kind; else as the table's own adding.
+use Rattle.std.proofs.Common.{arith, lit<}
+use Rattle.annotation.proofs.Known.{unknown_is4}
 use Rattle.table.specs.Rows.{lanes, row}
-use Rattle.table.proofs.Adds.{add_by_table, add_by_triple, added_to_sound, added_legal, add_by_put}
+use Rattle.table.proofs.Judging.{table-by_kind}
+use Rattle.table.proofs.Adds.{add_by_table}
 use Rattle.table.proofs.add.Goals as goal
 
-pub returns-then-table-gt0 : goal.returns-then-table-gt0
-returns-then-table-gt0 c =
-    let the-args = c.args in
-    let the-check = c.check-table in
-    let the-if1 = c.if-table-gt0 in
-    add_by_table the-args.kind (row the-args.s the-args.p the-args.o the-args.a) (lanes the-args.subj.now the-args.pred.now the-args.obj.now the-args.ann.now) the-args.count the-check.result the-check.ensures the-if1.true
-
-pub returns-then-number-gt0 : goal.returns-then-number-gt0
-returns-then-number-gt0 c =
-    let the-args = c.args in
-    let the-check = c.check-table in
-    let the-if1 = c.if-table-gt0 in
-    let the-triple-refusal = c.triple_refusal-number in
-    let the-if2 = c.if-number-gt0 in
-    add_by_triple the-args.kind (row the-args.s the-args.p the-args.o the-args.a) (lanes the-args.subj.now the-args.pred.now the-args.obj.now the-args.ann.now) the-args.count the-check.result the-check.ensures the-if1.false _ the-triple-refusal.ensures the-if2.true
-
-pub put_row-done-requires : goal.put_row-done-requires
-put_row-done-requires c =
-    let the-args = c.args in
-    let the-check = c.check-table in
-    let the-if1 = c.if-table-gt0 in
-    let the-triple-refusal = c.triple_refusal-number in
-    let the-if2 = c.if-number-gt0 in
-    record {
-      sound = added_to_sound the-args.kind (row the-args.s the-args.p the-args.o the-args.a) (lanes the-args.subj.now the-args.pred.now the-args.obj.now the-args.ann.now) the-args.count the-check.result the-check.ensures the-if1.false;
-      legal = added_legal the-args.kind (row the-args.s the-args.p the-args.o the-args.a) (lanes the-args.subj.now the-args.pred.now the-args.obj.now the-args.ann.now) the-args.count the-check.result the-check.ensures the-if1.false _ the-triple-refusal.ensures the-if2.false;
-    }
-
-pub returns : goal.returns
-returns c =
-    let the-args = c.args in
-    let the-check = c.check-table in
-    let the-if1 = c.if-table-gt0 in
-    let the-triple-refusal = c.triple_refusal-number in
-    let the-if2 = c.if-number-gt0 in
-    let the-put-row = c.put_row-done in
-    let the-room-number = c.room_number in
-    add_by_put the-args.kind (row the-args.s the-args.p the-args.o the-args.a) (lanes the-args.subj.now the-args.pred.now the-args.obj.now the-args.ann.now) the-args.count the-check.result the-check.ensures the-if1.false _ the-triple-refusal.ensures the-if2.false
-    _ the-put-row.result.full the-put-row.result.changed _ _ the-put-row.ensures the-room-number.ensures
+pub returns-in_default : goal.returns-in_default
+returns-in_default c =
+    let l = lanes c.args.subj.now c.args.pred.now c.args.obj.now c.args.ann.now in
+    rw c.number.ensures
+    (add_by_table c.args.kind (row c.args.s c.args.p c.args.o c.args.a) l c.args.count _ (table-by_kind c.args.kind l c.args.count 4 (unknown_is4 c.args.kind c.in_default.ensures.1) (omega arith)) (lit< tt))

@@ -14,25 +14,25 @@ pub returns-then-x-lt128 : goal.returns-then-x-lt128
 returns-then-x-lt128 c =
     let the-args = c.args in
     let the-pre = c.requires in
-    let the-wide = c.wide-x in
+    let the-from = c.from-x in
     let the-if1 = c.if-x-lt128 in
-    seen-whole the-args.b.now the-args.at the-args.end the-pre.0 the-pre.1 the-wide.result 1
-    (sym (at_one the-args.b.now the-args.at the-args.end the-pre.1 the-pre.0 the-wide.result the-wide.ensures the-if1.true))
+    seen-whole the-args.b.now the-args.at the-args.end the-pre.0 the-pre.1 the-from.result 1
+    (sym (at_one the-args.b.now the-args.at the-args.end the-pre.1 the-pre.0 the-from.result the-from.ensures the-if1.true))
 
-pub overflow_add-result-in-Whole : goal.overflow_add-result-in-Whole
-overflow_add-result-in-Whole c =
+pub overflow_add-result-in-Some : goal.overflow_add-result-in-Some
+overflow_add-result-in-Some c =
     let the-args = c.args in
     let the-pre = c.requires in
-    omega (arith, whole-fits the-args.b.now the-args.at the-args.end the-pre.0 the-pre.1 _ _ (sym c.in-Whole.ensures))
+    omega (arith, whole-fits the-args.b.now the-args.at the-args.end the-pre.0 the-pre.1 _ _ (sym c.in-Some.ensures))
 
-pub returns-in-Whole : goal.returns-in-Whole
-returns-in-Whole c =
+pub returns-in-Some : goal.returns-in-Some
+returns-in-Some c =
     let the-args = c.args in
     let the-pre = c.requires in
-    seen-whole the-args.b.now the-args.at the-args.end the-pre.0 the-pre.1 _ _ (sym c.in-Whole.ensures)
+    seen-whole the-args.b.now the-args.at the-args.end the-pre.0 the-pre.1 _ _ (sym c.in-Some.ensures)
 
-pub returns-in-Bad : goal.returns-in-Bad
-returns-in-Bad c =
+pub returns-in-None : goal.returns-in-None
+returns-in-None c =
     let the-args = c.args in
     let the-pre = c.requires in
-    seen-bad the-args.b.now the-args.at the-args.end the-pre.0 the-pre.1 (sym c.in-Bad.ensures)
+    seen-bad the-args.b.now the-args.at the-args.end the-pre.0 the-pre.1 (sym c.in-None.ensures)

@@ -1,64 +1,50 @@
-use native.Mathlib.Omega.{arith}
-use Rattle.table.proofs.Soundness.{sound-ordered}
-use Rattle.walks.proofs.Rising.{turn, goes_on, drew-full}
-use Rattle.walks.proofs.Neighbours.{within-two}
-use Rattle.walks.proofs.Walking.{walk_start, walk_end, next-met}
+use Rattle.std.proofs.Common.{arith, refl, rules}
+use Rattle.std.proofs.lemmas.Result.{err_from_is_err_and}
+use Rattle.walks.proofs.Rising.{either_or, turn, drew-full}
+use Rattle.walks.proofs.Walking.{planned-later, met-values, next-met, row-met, walk_start, walk_end}
 use Rattle.walks.proofs.walk.Goals as goal
 
-pub find-i-requires : goal.find-i-requires
-find-i-requires c =
-    let the-pre = c.requires in
-    sound-ordered the-pre.sound
+pub loop-each-init : goal.loop-each-init
+loop-each-init g c =
+    let r = c.rows.ensures in
+    let found = rw (r.same_subj, r.same_pred, r.same_obj, r.same_count, c.key_of.ensures) at c.find-i.ensures in
+    record { kept = search rules; drew = rw c.unchanged-walked.ensures (walk_start c.requires (omega arith) found) }
 
-pub loop-plan-init : goal.loop-plan-init
-loop-plan-init c =
-    let the-pre = c.requires in
-    let the-key-of = c.key_of in
-    let the-find = c.find-i in
-    walk_start the-pre (omega (arith, the-pre.shaped)) (omega arith) (rw the-key-of.ensures at the-find.ensures)
+pub meet-c-requires : goal.meet-c-requires
+meet-c-requires g c =
+    let r = c.rows-in-loop-each.ensures in
+    let begins = rw (r.same_subj, r.same_pred, r.same_count) at c.begins.ensures in
+    let i = c.loop-each.invariant in
+    rw i.kept.same_kind (met-values (planned-later c.requires i.drew.risen) (begins.there c.loop-each-test.true).0)
 
-pub begins-requires : goal.begins-requires
-begins-requires c =
-    let the-loop = c.loop-plan in
-    within-two _ _ _ the-loop.invariant.risen.sound
+pub draw-requires : goal.draw-requires
+draw-requires g c =
+    let r = c.rows-in-loop-each.ensures in
+    let begins = rw (r.same_subj, r.same_pred, r.same_count) at c.begins.ensures in
+    let i = c.loop-each.invariant in
+    let here = begins.there c.loop-each-test.true in
+    let m = next-met (planned-later c.requires i.drew.risen) here.0 here.1 here.2 (rw i.kept.same_kind at c.meet-c.ensures) in
+    rw (← i.kept.same_kind) at m
 
-pub draw_met-done-requires : goal.draw_met-done-requires
-draw_met-done-requires c =
-    let the-pre = c.requires in
-    let the-loop = c.loop-plan in
-    let the-begins = c.begins in
-    let the-if1 = c.loop-plan-test in
-    next-met the-pre the-loop.invariant.risen the-begins.ensures the-if1.true
+pub returns-in_err-done-clause-walked : goal.returns-in_err-done-clause-walked
+returns-in_err-done-clause-walked g c =
+    let p = err_from_is_err_and c.from_residual.result c.from_residual.ensures.1 in
+    let i = c.loop-each.invariant in
+    let d = rw i.kept.same_kind at c.in_err-done.ensures.drawn in
+    let b = rw i.kept.same_kind at c.meet-c.ensures in
+    rw p.1 (_, drew-full (turn i.drew (row-met _ _ _ _ c.loop-each.i b d.1) (either_or _ _)) refl)
 
-pub returns-then-done : goal.returns-then-done
-returns-then-done c =
-    let the-loop = c.loop-plan in
-    let the-draw-met = c.draw_met-done in
-    let the-either = c.either-changed in
-    let the-if2 = c.if-done in
-    drew-full (turn the-loop.invariant the-draw-met.ensures the-either.ensures) the-if2.true
+pub loop-each-preserved : goal.loop-each-preserved
+loop-each-preserved g c =
+    let i = c.loop-each.invariant in
+    let d = rw i.kept.same_kind at c.in_ok-done.ensures.drawn in
+    let b = rw i.kept.same_kind at c.meet-c.ensures in
+    record { kept = search rules; drew = turn i.drew (row-met _ _ _ _ c.loop-each.i b d) (either_or _ _) }
 
-pub loop-plan-smaller : goal.loop-plan-smaller
-loop-plan-smaller c =
-    let the-begins = c.begins in
-    let the-if1 = c.loop-plan-test in
-    let the-loop = c.loop-plan in
-    omega (arith, (the-begins.ensures.there the-if1.true).0, the-loop.invariant.risen.sound.within, the-loop.invariant.risen.as_long.same_subj)
-
-pub loop-plan-preserved : goal.loop-plan-preserved
-loop-plan-preserved c =
-    let the-loop = c.loop-plan in
-    let the-draw-met = c.draw_met-done in
-    let the-either = c.either-changed in
-    let the-if2 = c.if-done in
-    goes_on (turn the-loop.invariant the-draw-met.ensures the-either.ensures) the-if2.false
-
-pub returns : goal.returns
-returns c =
-    let the-pre = c.requires in
-    let the-key-of = c.key_of in
-    let the-find = c.find-i in
-    let the-loop = c.loop-plan in
-    let the-begins = c.begins in
-    let the-if1 = c.loop-plan-test in
-    walk_end the-pre (omega (arith, the-pre.shaped)) (omega arith) (rw the-key-of.ensures at the-find.ensures) the-loop.invariant the-begins.ensures the-if1.false
+pub returns-clause-walked : goal.returns-clause-walked
+returns-clause-walked g c =
+    let r = c.rows.ensures in
+    let found = rw (r.same_subj, r.same_pred, r.same_obj, r.same_count, c.key_of.ensures) at c.find-i.ensures in
+    let s = c.rows-in-loop-each.ensures in
+    let begins = rw (s.same_subj, s.same_pred, s.same_count) at c.begins.ensures in
+    walk_end c.requires (omega arith) found c.loop-each.invariant.drew begins c.loop-each-test.false

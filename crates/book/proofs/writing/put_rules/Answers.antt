@@ -1,5 +1,6 @@
 -- A byte in the second edition, nothing in the first.
 use mathlib.Core.Path.{sym, ◌∙◌}
+use Rattle.ruleset.specs.Numbered.{set_number}
 use Rattle.book.proofs.Writes.{rules-fit, rules-put, rules-left}
 use Rattle.book.proofs.writing.put_rules.Goals as goal
 
@@ -9,7 +10,7 @@ bounds-out-7 c =
     let the-pre = c.requires in
     let the-edition-for = c.edition_for in
     let the-if1 = c.if-edition_for-eq-SECOND_EDITION in
-    rules-fit the-args.out.now the-args.rules the-pre (sym the-edition-for.ensures ∙ the-if1.true)
+    rules-fit the-args.out.now (set_number the-args.rules) the-pre (sym the-edition-for.ensures ∙ the-if1.true)
 
 pub returns-then-edition_for-eq-SECOND_EDITION : goal.returns-then-edition_for-eq-SECOND_EDITION
 returns-then-edition_for-eq-SECOND_EDITION c =
@@ -17,7 +18,7 @@ returns-then-edition_for-eq-SECOND_EDITION c =
     let the-pre = c.requires in
     let the-edition-for = c.edition_for in
     let the-if1 = c.if-edition_for-eq-SECOND_EDITION in
-    rules-put the-args.out.now the-args.rules the-pre (sym the-edition-for.ensures ∙ the-if1.true)
+    rw c.number.ensures (rules-put the-args.out.now (set_number the-args.rules) the-pre (sym the-edition-for.ensures ∙ the-if1.true))
 
 pub returns-else-edition_for-eq-SECOND_EDITION : goal.returns-else-edition_for-eq-SECOND_EDITION
 returns-else-edition_for-eq-SECOND_EDITION c =
@@ -25,4 +26,4 @@ returns-else-edition_for-eq-SECOND_EDITION c =
     let the-pre = c.requires in
     let the-if1 = c.if-edition_for-eq-SECOND_EDITION in
     let the-edition-for = c.edition_for in
-    rules-left the-args.out.now the-args.rules the-pre (λ e. the-if1.false (the-edition-for.ensures ∙ e))
+    rules-left the-args.out.now (set_number the-args.rules) the-pre (λ e. the-if1.false (the-edition-for.ensures ∙ e))

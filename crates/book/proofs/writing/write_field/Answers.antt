@@ -12,5 +12,5 @@ returns c =
     let the-put-two2 = c.put_two-2 in
     let the-put-two3 = c.put_two-3 in
     let the-put-eight = c.put_eight in
-    field_written the-args.out.now _ _ _ _ _ the-args.at (row the-args.s the-args.p the-args.o the-args.a) (the-pre)
+    field_written the-args.out.now _ _ _ _ _ the-args.at (row the-args.r.s the-args.r.p the-args.r.o the-args.r.a) (the-pre)
     the-put-front.ensures the-put-two.ensures the-put-two2.ensures the-put-two3.ensures the-put-eight.ensures

@@ -1,12 +1,9 @@
 -- Each lane's part is zeros.
+use Rattle.std.proofs.Common.{rules}
 use Rattle.closing.proofs.Wiping.{past_wiped}
 use Rattle.closing.proofs.rest.wipe_past.Goals as goal
 
-pub returns : goal.returns
-returns c =
-    let the-pre = c.requires in
-    let the-zero-u16 = c.zero_u16 in
-    let the-zero-u162 = c.zero_u16-2 in
-    let the-zero-u163 = c.zero_u16-3 in
-    let the-zero-u64 = c.zero_u64 in
-    past_wiped _ _ _ _ _ (the-pre) _ _ _ _ the-zero-u16.ensures the-zero-u162.ensures the-zero-u163.ensures the-zero-u64.ensures
+pub returns-clause-wiped : goal.returns-clause-wiped
+returns-clause-wiped c =
+    let t = c.args.table.now in
+    past_wiped t.subj.now t.pred.now t.obj.now t.ann.now t.count c.requires c.fill.new.self c.fill-2.new.self c.fill-3.new.self c.fill-4.new.self (search rules) (search rules) (search rules) (search rules)

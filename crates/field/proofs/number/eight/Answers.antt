@@ -1,11 +1,8 @@
--- High half and low half.
-use mathlib.Core.Path.{refl}
-use Rattle.field.specs.Numbers.{eight_at}
+-- Eight bytes, the highest first.
+use Rattle.std.proofs.Common.{arith, add_assoc}
+use Rattle.field.specs.Numbers.{two_at, four_at, eight_at}
 use Rattle.field.proofs.number.eight.Goals as goal
 
 pub returns : goal.returns
-unfolding eight_at
-returns c =
-    let the-four = c.four-high in
-    let the-four2 = c.four-low in
-    rw (← the-four.ensures.0, ← the-four2.ensures.0) refl
+unfolding eight_at four_at two_at
+returns c = simp add_assoc (omega (arith, c.from_be_bytes.ensures))

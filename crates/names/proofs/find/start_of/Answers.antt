@@ -1,15 +1,10 @@
 -- 0, or the end before.
+use mathlib.Core.Path.{◌∙◌}
 use Rattle.names.proofs.Entries.{start_zero, start_next}
 use Rattle.names.proofs.find.start_of.Goals as goal
 
 pub returns-then-i-eq0 : goal.returns-then-i-eq0
-returns-then-i-eq0 c =
-    let the-args = c.args in
-    let the-if1 = c.if-i-eq0 in
-    start_zero the-args.ends.now the-args.i the-if1.true
+returns-then-i-eq0 c = start_zero c.args.ends.now c.args.i c.if-i-eq0.true
 
-pub returns : goal.returns
-returns c =
-    let the-args = c.args in
-    let the-if1 = c.if-i-eq0 in
-    start_next the-args.ends.now the-args.i the-if1.false
+pub returns-else-i-eq0 : goal.returns-else-i-eq0
+returns-else-i-eq0 c = c.from.ensures ∙ start_next c.args.ends.now c.args.i c.if-i-eq0.false

@@ -1,11 +1,7 @@
--- The loop's invariant: the first i bytes are mixed in.
-use Prim.Native.Nat.{◌≤◌, ◌-◌}
-use lib.ListN.{take}
+-- The loop's invariant: all but the bytes to come is mixed in.
+use lib.ListN.{drop}
 use Rattle.names.specs.Hashed.{MixedIn}
 use Rattle.names.proofs.hash.hash.Given as goal
 
-abbrev pub invariant-loop-i : goal.invariant-loop-i
-invariant-loop-i l = (l.i ≤ l.size) × MixedIn (take l.size l.word) l.i l.h
-
-abbrev pub decreases-loop-i : goal.decreases-loop-i
-decreases-loop-i l = l.size - l.i
+abbrev pub invariant-loop-byte : goal.invariant-loop-byte
+invariant-loop-byte l = MixedIn l.word (drop l.byte-index l.rest) l.h

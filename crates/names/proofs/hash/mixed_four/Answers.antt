@@ -6,4 +6,4 @@ use Rattle.names.proofs.hash.mixed_four.Goals as goal
 
 pub returns : goal.returns
 returns c =
-    let the-args = c.args in (four_sum the-args.h the-args.a the-args.b the-args.c the-args.d, mod-lt _ (omega arith))
+    (rw (c.from.ensures, c.from-2.ensures, c.from-3.ensures, c.from-4.ensures) (four_sum c.args.h c.args.a c.args.b c.args.c c.args.d), mod-lt _ (omega arith))

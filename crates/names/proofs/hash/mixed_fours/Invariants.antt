@@ -1,11 +1,10 @@
--- The loop's invariant: the first i bytes are mixed in.
-use Prim.Native.Nat.{◌≤◌, ◌-◌}
-use lib.ListN.{take}
+-- The loop's invariant: all that is not left is mixed in.
+use lib.ListN.{length}
 use Rattle.names.specs.Hashed.{MixedIn}
 use Rattle.names.proofs.hash.mixed_fours.Given as goal
 
-abbrev pub invariant-loop-i : goal.invariant-loop-i
-invariant-loop-i l = (l.i ≤ l.size) × MixedIn (take l.size l.word) l.i l.h
+abbrev pub invariant-loop-left : goal.invariant-loop-left
+invariant-loop-left l = MixedIn l.word l.left l.h
 
-abbrev pub decreases-loop-i : goal.decreases-loop-i
-decreases-loop-i l = l.size - l.i
+abbrev pub decreases-loop-left : goal.decreases-loop-left
+decreases-loop-left l = length l.left

@@ -1,37 +1,17 @@
--- A run, or nothing.
-use Rattle.ntline.proofs.Passing.{stays, iri-passes, string-passes}
+-- A run of plain bytes.
+use Rattle.std.proofs.Common.{◌≡◌}
+use Rattle.ntline.specs.declared.lexing.State.TheVariants.{Iri, Quoted}
+use Rattle.ntline.proofs.Passing.{iri-run, string-run}
 use Rattle.ntline.proofs.lexing.pass.Goals as goal
 
-pub returns-then-scheme-left : goal.returns-then-scheme-left
-returns-then-scheme-left c =
-    let the-args = c.args in
-    let the-s = c.in-Iri in
-    let the-if1 = c.if-scheme-left in
-    let the-plain-run = c.plain_run in
-    iri-passes the-args.s _ _ _ the-args.b.now the-args.at the-args.end _ the-s.is the-if1.true the-plain-run.ensures
+pub returns-in-Iri-eq2-eq0-eq0 : goal.returns-in-Iri-eq2-eq0-eq0
+returns-in-Iri-eq2-eq0-eq0 c =
+    let m = c.in-Iri-eq2-eq0-eq0 in
+    let e : c.args.s ≡ Iri 2 0 0 = cc in
+    rw e (iri-run c.args.b.now c.args.at c.args.end c.plain_run.result c.plain_run.ensures)
 
-pub returns-then-left-value : goal.returns-then-left-value
-returns-then-left-value c =
-    let the-args = c.args in
-    let the-s2 = c.in-Quoted in
-    let the-if2 = c.if-left-value in
-    let the-plain-run2 = c.plain_run-then-left-value in
-    string-passes the-args.s _ _ the-args.b.now the-args.at the-args.end _ the-s2.is the-if2.true the-plain-run2.ensures
-
-pub returns-else-scheme-left : goal.returns-else-scheme-left
-returns-else-scheme-left c =
-    let the-args = c.args in
-    let the-pre = c.requires in
-    stays the-args.s the-args.b.now the-args.at the-args.end the-pre.0
-
-pub returns-else-left-value : goal.returns-else-left-value
-returns-else-left-value c =
-    let the-args = c.args in
-    let the-pre = c.requires in
-    stays the-args.s the-args.b.now the-args.at the-args.end the-pre.0
-
-pub returns-in_default : goal.returns-in_default
-returns-in_default c =
-    let the-args = c.args in
-    let the-pre = c.requires in
-    stays the-args.s the-args.b.now the-args.at the-args.end the-pre.0
+pub returns-in-Quoted-eq0-eq0 : goal.returns-in-Quoted-eq0-eq0
+returns-in-Quoted-eq0-eq0 c =
+    let m = c.in-Quoted-eq0-eq0 in
+    let e : c.args.s ≡ Quoted 0 0 = cc in
+    rw e (string-run c.args.b.now c.args.at c.args.end c.plain_run-in-Quoted-eq0-eq0.result c.plain_run-in-Quoted-eq0-eq0.ensures)

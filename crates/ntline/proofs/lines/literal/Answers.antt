@@ -1,22 +1,26 @@
 -- By the terminal behind the string and white space.
+use Rattle.std.proofs.Common.{ap}
 use native.Mathlib.Omega.{arith}
-use Rattle.ntline.proofs.Spans.{literal-tagged, literal-typed, literal-plain}
+use Rattle.ntline.specs.declared.lexing.Kind.TheVariants.{Tag, Hats}
+use Rattle.ntline.specs.Kinds.{number_of}
+use Rattle.ntline.proofs.Spans.{other_kind, literal-tagged, literal-typed, literal-plain}
 use Rattle.ntline.proofs.lines.literal.Goals as goal
 
-pub spaced-behind-requires : goal.spaced-behind-requires
-spaced-behind-requires c = (c.requires.1, c.requires.2)
+pub returns-in_default : goal.returns-in_default
+returns-in_default c =
+    rw c.literal_term.ensures
+    (literal-plain c.args.b.now _ _ _ _ _ _ c.requires.0 c.spaced-behind.ensures c.in_default.ensures c.requires.1 (λ e. omega arith) (λ e. omega arith))
 
-pub token-t-requires : goal.token-t-requires
-token-t-requires c = (c.spaced-behind.ensures.within, c.requires.2)
+pub returns-in-Tag : goal.returns-in-Tag
+returns-in-Tag c =
+    rw c.literal_term-in-Tag.ensures (literal-tagged c.args.b.now _ _ _ _ _ _ c.requires.0 c.spaced-behind.ensures c.in-Some.ensures (ap number_of c.in-Tag.is))
 
-pub returns-then-t-eq-TAG : goal.returns-then-t-eq-TAG
-returns-then-t-eq-TAG c = literal-tagged c.args.b.now _ _ _ _ _ _ c.requires.0 c.spaced-behind.ensures c.token-t.ensures c.if-t-eq-TAG.true
+pub returns-in-Hats : goal.returns-in-Hats
+returns-in-Hats c =
+    literal-typed c.args.b.now _ _ _ _ _ _ c.requires.0 c.spaced-behind.ensures c.in-Some.ensures _ (ap number_of c.in-Hats.is) c.typed.ensures
 
-pub typed-requires : goal.typed-requires
-typed-requires c = (c.requires.0, omega (arith, c.spaced-behind.ensures.later, c.token-t.ensures.later), c.token-t.ensures.within, c.requires.2)
-
-pub returns-then-t-eq-HATS : goal.returns-then-t-eq-HATS
-returns-then-t-eq-HATS c = literal-typed c.args.b.now _ _ _ _ _ _ c.requires.0 c.spaced-behind.ensures c.token-t.ensures _ c.if-t-eq-HATS.true c.typed.ensures
-
-pub returns : goal.returns
-returns c = rw c.short_term.ensures (literal-plain c.args.b.now _ _ _ _ _ _ c.requires.0 c.spaced-behind.ensures c.token-t.ensures c.requires.1 c.if-t-eq-TAG.false c.if-t-eq-HATS.false)
+pub returns-in_default-kind : goal.returns-in_default-kind
+returns-in_default-kind c =
+    rw c.literal_term.ensures
+    (literal-plain c.args.b.now _ _ _ _ _ _ c.requires.0 c.spaced-behind.ensures c.in-Some.ensures c.requires.1
+    (other_kind _ Tag c.in_default-kind.not-Tag) (other_kind _ Hats c.in_default-kind.not-Hats))

@@ -1,16 +1,12 @@
 -- An object, and the dot behind it.
-use mathlib.Core.Path.{sym, ◌∙◌}
 use Rattle.ntline.proofs.Lining.{object-missing, object-dotted, object-undotted}
 use Rattle.ntline.proofs.lines.object.Goals as goal
 
-pub returns-then-o-gt-LITERAL : goal.returns-then-o-gt-LITERAL
-returns-then-o-gt-LITERAL c = λ s p x y. object-missing c.args.b.now c.args.end c.args.s c.args.p c.term-o.result s p y c.term-o.ensures c.if-o-gt-LITERAL.true
+pub returns-in-Some : goal.returns-in-Some
+returns-in-Some c = λ s p x y. object-dotted c.args.b.now c.args.end c.args.s c.args.p s p c.in-Some.o x y c.in-Some.ensures c.if-dotted.ensures
 
-pub dotted-requires : goal.dotted-requires
-dotted-requires c = (c.term-o.ensures.within, c.requires.1)
+pub returns-in_default : goal.returns-in_default
+returns-in_default c = λ s p x y. object-undotted c.args.b.now c.args.end c.args.s c.args.p s p c.in-Some.o y c.in-Some.ensures c.if-dotted.ensures
 
-pub returns-then-dotted : goal.returns-then-dotted
-returns-then-dotted c = λ s p x y. object-dotted c.args.b.now c.args.end c.args.s c.args.p c.term-o.result s p x y c.term-o.ensures c.if-o-gt-LITERAL.false (sym c.if-dotted.true ∙ c.dotted.ensures)
-
-pub returns : goal.returns
-returns c = λ s p x y. object-undotted c.args.b.now c.args.end c.args.s c.args.p c.term-o.result s p y c.term-o.ensures c.if-o-gt-LITERAL.false (sym c.if-dotted.false ∙ c.dotted.ensures)
+pub returns-in_default-2 : goal.returns-in_default-2
+returns-in_default-2 c = λ s p x y. object-missing c.args.b.now c.args.end c.args.s c.args.p s p y c.in_default.ensures

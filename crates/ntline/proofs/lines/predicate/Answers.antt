@@ -1,12 +1,17 @@
 -- A predicate is a name.
-use Rattle.ntline.proofs.Lining.{predicate-name, predicate-missing}
+use Rattle.std.proofs.Common.{rules, sym}
+use denote.Enum.Bare.{same_true, same_false}
+use Rattle.ntline.specs.contracts.lines.Sort.{the_type}
+use Rattle.ntline.proofs.Lining.{predicate-name, predicate-none, predicate-other}
 use Rattle.ntline.proofs.lines.predicate.Goals as goal
 
-pub object-requires : goal.object-requires
-object-requires c = (c.term-p.ensures.within, c.requires.1)
+pub returns-in-Some : goal.returns-in-Some
+returns-in-Some c =
+    λ s x. predicate-name c.args.b.now c.args.end c.args.s s c.in-Some.p c.object.result x c.in-Some.ensures (same_true the_type (search rules) _ _ (sym c.if-eq.ensures)) c.object.ensures
 
-pub returns-then-p-eq-NAME : goal.returns-then-p-eq-NAME
-returns-then-p-eq-NAME c = λ s x. predicate-name c.args.b.now c.args.end c.args.s c.term-p.result s c.object.result x c.term-p.ensures c.if-p-eq-NAME.true c.object.ensures
+pub returns-in_default : goal.returns-in_default
+returns-in_default c =
+    λ s x. predicate-other c.args.b.now c.args.end c.args.s s c.in-Some.p x c.in-Some.ensures (same_false the_type _ _ (sym c.if-eq.ensures))
 
-pub returns : goal.returns
-returns c = λ s x. predicate-missing c.args.b.now c.args.end c.args.s c.term-p.result s x c.term-p.ensures c.if-p-eq-NAME.false
+pub returns-in_default-2 : goal.returns-in_default-2
+returns-in_default-2 c = λ s x. predicate-none c.args.b.now c.args.end c.args.s s x (rw c.in_default.is at c.term.ensures)

@@ -1,12 +1,15 @@
 -- A subject is a name or a blank.
-use Rattle.ntline.proofs.Lining.{subject-there, subject-missing}
+use Rattle.std.proofs.Common.{rules, sym}
+use denote.Enum.Bare.{differs_true, differs_false}
+use Rattle.ntline.specs.contracts.lines.Sort.{the_type}
+use Rattle.ntline.proofs.Lining.{subject-there, subject-none, subject-literal}
 use Rattle.ntline.proofs.lines.subject.Goals as goal
 
-pub predicate-requires : goal.predicate-requires
-predicate-requires c = (c.term-s.ensures.within, c.requires.1)
+pub returns-in-Some : goal.returns-in-Some
+returns-in-Some c = subject-there c.args.b.now c.args.at c.args.end c.in-Some.s c.in-Some.ensures c.predicate.result (differs_true the_type _ _ (sym c.if-ne.ensures)) c.predicate.ensures
 
-pub returns-then-s-le-BLANK : goal.returns-then-s-le-BLANK
-returns-then-s-le-BLANK c = subject-there c.args.b.now c.args.at c.args.end c.term-s.result c.term-s.ensures c.predicate.result c.if-s-le-BLANK.true c.predicate.ensures
+pub returns-in_default : goal.returns-in_default
+returns-in_default c = subject-literal c.args.b.now c.args.at c.args.end c.in-Some.s c.in-Some.ensures (differs_false the_type (search rules) _ _ (sym c.if-ne.ensures))
 
-pub returns : goal.returns
-returns c = subject-missing c.args.b.now c.args.at c.args.end c.term-s.result c.term-s.ensures c.if-s-le-BLANK.false
+pub returns-in_default-2 : goal.returns-in_default-2
+returns-in_default-2 c = subject-none c.args.b.now c.args.at c.args.end (rw c.in_default.is at c.term.ensures)

@@ -1,21 +1,25 @@
 -- By its first terminal.
-use Rattle.ntline.proofs.Spans.{term-iri, term-label, term-string, term-none}
+use Rattle.std.proofs.Common.{ap}
+use native.Mathlib.Omega.{arith}
+use Rattle.ntline.specs.declared.lexing.Kind.TheVariants.{Iri, Label, String}
+use Rattle.ntline.specs.Kinds.{number_of}
+use Rattle.ntline.proofs.Spans.{other_kind, term-iri, term-label, term-string, term-none}
 use Rattle.ntline.proofs.lines.term.Goals as goal
 
-pub token-t-requires : goal.token-t-requires
-token-t-requires c = (c.spaced-from.ensures.within, c.requires.1)
+pub returns-in_err-t : goal.returns-in_err-t
+returns-in_err-t c =
+    rw c.from_residual.ensures (term-none c.args.b.now _ _ _ _ _ c.spaced-from.ensures c.in_err-t.ensures (λ e. omega arith) (λ e. omega arith) (λ e. omega arith))
 
-pub returns-then-t-eq-IRI : goal.returns-then-t-eq-IRI
-returns-then-t-eq-IRI c = rw c.short_term.ensures (term-iri c.args.b.now _ _ _ _ _ c.spaced-from.ensures c.token-t.ensures c.if-t-eq-IRI.true)
+pub returns-in-Iri : goal.returns-in-Iri
+returns-in-Iri c = rw c.short_term.ensures (term-iri c.args.b.now _ _ _ _ _ c.spaced-from.ensures c.in_ok-t.ensures (ap number_of c.in-Iri.is))
 
-pub returns-then-t-eq-LABEL : goal.returns-then-t-eq-LABEL
-returns-then-t-eq-LABEL c = rw c.short_term-then-t-eq-LABEL.ensures (term-label c.args.b.now _ _ _ _ _ c.spaced-from.ensures c.token-t.ensures c.if-t-eq-LABEL.true)
+pub returns-in-Label : goal.returns-in-Label
+returns-in-Label c = rw c.short_term-in-Label.ensures (term-label c.args.b.now _ _ _ _ _ c.spaced-from.ensures c.in_ok-t.ensures (ap number_of c.in-Label.is))
 
-pub literal-requires : goal.literal-requires
-literal-requires c = (c.token-t.ensures.later, c.token-t.ensures.within, c.requires.1)
+pub returns-in-String : goal.returns-in-String
+returns-in-String c = term-string c.args.b.now _ _ _ _ _ c.spaced-from.ensures c.in_ok-t.ensures _ (ap number_of c.in-String.is) c.literal.ensures
 
-pub returns-then-t-eq-STRING : goal.returns-then-t-eq-STRING
-returns-then-t-eq-STRING c = term-string c.args.b.now _ _ _ _ _ c.spaced-from.ensures c.token-t.ensures _ c.if-t-eq-STRING.true c.literal.ensures
-
-pub returns : goal.returns
-returns c = rw c.no_term.ensures (term-none c.args.b.now _ _ _ _ _ c.spaced-from.ensures c.token-t.ensures c.if-t-eq-IRI.false c.if-t-eq-LABEL.false c.if-t-eq-STRING.false)
+pub returns-in_default : goal.returns-in_default
+returns-in_default c =
+    term-none c.args.b.now _ _ _ _ _ c.spaced-from.ensures c.in_ok-t.ensures
+    (other_kind _ Iri c.in_default.not-Iri) (other_kind _ Label c.in_default.not-Label) (other_kind _ String c.in_default.not-String)

@@ -1,15 +1,19 @@
 -- By the terminal behind white space.
-use Rattle.ntline.proofs.Spans.{typed_found, typed_missing}
+use Rattle.std.proofs.Common.{ap}
+use native.Mathlib.Omega.{arith}
+use Rattle.ntline.specs.declared.lexing.Kind.TheVariants.{Iri}
+use Rattle.ntline.specs.Kinds.{number_of}
+use Rattle.ntline.proofs.Spans.{other_kind, typed_found, typed_missing}
 use Rattle.ntline.proofs.lines.typed.Goals as goal
 
-pub spaced-behind-requires : goal.spaced-behind-requires
-spaced-behind-requires c = (c.requires.2, c.requires.3)
+pub returns-in_err-t : goal.returns-in_err-t
+returns-in_err-t c =
+    rw c.from_residual.ensures (typed_missing c.args.b.now _ _ _ _ _ _ _ c.requires.0 c.requires.1 c.spaced-behind.ensures c.in_err-t.ensures (λ e. omega arith))
 
-pub token-t-requires : goal.token-t-requires
-token-t-requires c = (c.spaced-behind.ensures.within, c.requires.3)
+pub returns-in-Iri : goal.returns-in-Iri
+returns-in-Iri c =
+    rw c.literal_term.ensures (typed_found c.args.b.now _ _ _ _ _ _ _ c.requires.0 c.requires.1 c.spaced-behind.ensures c.in_ok-t.ensures (ap number_of c.in-Iri.is))
 
-pub returns-then-t-eq-IRI : goal.returns-then-t-eq-IRI
-returns-then-t-eq-IRI c = typed_found c.args.b.now _ _ _ _ _ _ _ c.requires.0 c.requires.1 c.spaced-behind.ensures c.token-t.ensures c.if-t-eq-IRI.true
-
-pub returns : goal.returns
-returns c = typed_missing c.args.b.now _ _ _ _ _ _ _ c.requires.0 c.requires.1 c.spaced-behind.ensures c.token-t.ensures c.if-t-eq-IRI.false
+pub returns-in_default : goal.returns-in_default
+returns-in_default c =
+    typed_missing c.args.b.now _ _ _ _ _ _ _ c.requires.0 c.requires.1 c.spaced-behind.ensures c.in_ok-t.ensures (other_kind _ Iri c.in_default.not-Iri)

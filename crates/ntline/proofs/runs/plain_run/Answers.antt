@@ -1,43 +1,10 @@
-use Rattle.std.proofs.Common.{ap}
-use Rattle.std.specs.Prelude.{not}
-use native.Mathlib.Omega.{arith}
-use borrow.Author.Tests.{not-false}
+-- The bytes behind the blocks, by the test.
+use Rattle.std.proofs.Common.{refl}
 use Rattle.ntline.specs.Runs.{plain_byte}
-use Rattle.ntline.proofs.Passing.{run_more}
+use Rattle.ntline.proofs.Passing.{run_on}
 use Rattle.ntline.proofs.runs.plain_run.Goals as goal
-
-pub loop-i-init : goal.loop-i-init
-loop-i-init c =
-    let the-plain-blocks = c.plain_blocks-i in
-    the-plain-blocks.ensures
-
-pub bounds-b-i : goal.bounds-b-i
-bounds-b-i c =
-    let the-pre = c.requires in
-    let the-loop-test = c.loop-i-test in
-    omega (arith, the-pre.1, the-loop-test.true)
-
-pub returns-then-not-is_plain_byte : goal.returns-then-not-is_plain_byte
-returns-then-not-is_plain_byte c =
-    let the-loop = c.loop-i in
-    the-loop.invariant
-
-pub loop-i-smaller : goal.loop-i-smaller
-loop-i-smaller c =
-    let the-loop-test = c.loop-i-test in
-    omega (arith, the-loop-test.true)
-
-pub loop-i-preserved : goal.loop-i-preserved
-loop-i-preserved c =
-    let the-args = c.args in
-    let the-loop = c.loop-i in
-    let the-loop-test = c.loop-i-test in
-    let the-is-plain-byte = c.is_plain_byte in
-    let the-if1 = c.if-not-is_plain_byte in
-    run_more (plain_byte the-args.blank) the-args.b.now the-args.at the-args.end the-loop.i the-loop.invariant the-loop-test.true
-    (the-is-plain-byte.ensures (not-false _ (ap not the-if1.false)))
 
 pub returns : goal.returns
 returns c =
-    let the-loop = c.loop-i in
-    the-loop.invariant
+    run_on (plain_byte c.args.blank) c.args.b.now c.args.at c.args.end c.plain_blocks-behind.result c.run.result c.plain_blocks-behind.ensures
+    (record { later = c.run.ensures.later; within = c.run.ensures.inside; each = λ k l m. c.run.ensures.each k l m refl })

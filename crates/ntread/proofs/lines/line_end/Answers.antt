@@ -1,4 +1,6 @@
-use mathlib.Core.Path.{sym, ◌∙◌}
+use mathlib.Core.Path.{◌≡◌, sym, ◌∙◌}
+use native.Mathlib.Omega.{arith}
+use lib.ListN.{length}
 use Rattle.ntread.proofs.Parting.{end_here, end_over, inside-more}
 use Rattle.ntread.proofs.lines.line_end.Goals as goal
 
@@ -27,7 +29,5 @@ loop-i-preserved c =
 
 pub returns : goal.returns
 returns c =
-    let the-args = c.args in
-    let the-loop = c.loop-i in
-    let the-loop-test = c.loop-i-test in
-    end_over the-args.b.now the-args.at the-loop.i the-loop.invariant the-loop-test.false
+    let all : c.loop-i.i ≡ length c.args.b.now = omega (arith, c.loop-i.invariant.within, c.loop-i-test.false) in
+    rw all at (end_over c.args.b.now c.args.at c.loop-i.i c.loop-i.invariant c.loop-i-test.false)

@@ -1,42 +1,12 @@
 -- One part behind the other, and nothing behind them.
-use native.Mathlib.Omega.{arith}
-use Rattle.nttext.proofs.Parts.{term-other, matched-inside, term-compared}
+use Rattle.std.proofs.Common.{◌≡◌, ◌∙◌}
+use lib.Dec.{eqb}
+use Rattle.ntline.specs.Kinds.{sort_number}
+use Rattle.nttext.proofs.Parts.{is_literal, term-compared}
 use Rattle.nttext.proofs.texts.is_text_of.Goals as goal
-
-pub match_span-front-requires : goal.match_span-front-requires
-match_span-front-requires c =
-    let the_parts = c.parts-p in
-    let the-pre = c.requires in
-    (omega (arith, the_parts.ensures.behind.rising, the_parts.ensures.within, the-pre.0), the-pre.1, the-pre.2, the_parts.ensures.front)
-
-pub returns-then-not-front : goal.returns-then-not-front
-returns-then-not-front c =
-    let the-args = c.args in
-    let the_parts = c.parts-p in
-    let the-pre = c.requires in
-    let the-match-span = c.match_span-front in
-    let the-if1 = c.if-not-front in
-    term-other the-args.b.now the-args.end the-args.t _ the_parts.ensures the-args.text.now the-args.from the-args.to the-pre.2 _ _ the-match-span.ensures the-if1.true
-
-pub match_span-rest-requires : goal.match_span-rest-requires
-match_span-rest-requires c =
-    let the_parts = c.parts-p in
-    let the-pre = c.requires in
-    let the-args = c.args in
-    let the-match-span = c.match_span-front in
-    let the-if1 = c.if-not-front in (
-      omega (arith, the_parts.ensures.within, the-pre.0),
-      matched-inside the-args.b.now the-args.end the-args.t _ the_parts.ensures the-args.text.now the-args.from the-args.to the-pre.2 _ _ the-match-span.ensures the-if1.false,
-      the-pre.2,
-      the_parts.ensures.behind,
-    )
 
 pub returns : goal.returns
 returns c =
-    let the-args = c.args in
-    let the_parts = c.parts-p in
-    let the-pre = c.requires in
-    let the-match-span = c.match_span-front in
-    let the-if1 = c.if-not-front in
-    let the-match-span2 = c.match_span-rest in
-    term-compared the-args.b.now the-args.end the-args.t _ the_parts.ensures the-args.text.now the-args.from the-args.to the-pre.2 _ _ _ _ the-match-span.ensures the-if1.false the-match-span2.ensures
+    let quoted : c.eq.result ≡ eqb (sort_number c.args.t.sort) 2 = c.eq.ensures ∙ is_literal c.args.t.sort in
+    rw c.eq-2.ensures
+    (term-compared c.args.b.now c.args.end c.args.t _ c.parts-p.ensures c.args.text.now c.args.from c.args.to c.requires.2 _ _ (rw quoted at c.in-Some.ensures) c.match_span-2.ensures)

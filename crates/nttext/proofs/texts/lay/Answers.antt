@@ -1,69 +1,31 @@
 -- A character's bytes, where they fit.
+use mathlib.Core.Path.{◌≡◌}
+use mathlib.Core.Bool.{true, false}
+use mathlib.Core.Logic.{◌⊎◌, inl, inr}
 use native.Mathlib.Omega.{arith}
-use lib.ListN.{length-set}
+use lib.ListN.{set}
+use Rattle.utf8.specs.Characters.{is_character_lem}
 use Rattle.utf8.proofs.Agree.{size_few}
 use Rattle.ntline.proofs.Digits.{character_small}
-use Rattle.nttext.proofs.Filling.{lays-part, unit_misfits, lays-slashed, lays-bare}
+use Rattle.nttext.proofs.Filling.{marks-few, lays-none, lays-char}
 use Rattle.nttext.proofs.texts.lay.Goals as goal
+use Rattle.nttext.proofs.texts.lay.Goals.{then-c, else-c}
 
-pub returns-then-value-eq-PART : goal.returns-then-value-eq-PART
-returns-then-value-eq-PART c =
-    let the-args = c.args in
-    let the-if1 = c.if-value-eq-PART in
-    let the-pre = c.requires in
-    lays-part the-args.out.now _ the-args.slash the-args.value the-if1.true the-pre.0
+pub returns-in_default : goal.returns-in_default
+returns-in_default c = rw c.in_default.is (lays-none c.args.out.now c.args.at c.requires.0)
 
 pub overflow_add-size : goal.overflow_add-size
-overflow_add-size c = omega (arith, c.requires.1, c.size_of.ensures, (size_few c.args.value).1)
-
-pub returns-then-out-at : goal.returns-then-out-at
-returns-then-out-at c =
-    let the-args = c.args in
-    let the-if1 = c.if-value-eq-PART in
-    let the-pre = c.requires in
-    let the-size-of = c.size_of in
-    let the-if2 = c.if-out-at in
-    unit_misfits the-args.out.now the-args.at the-args.slash the-args.value _ the-if1.false the-pre.1 the-size-of.ensures the-pre.0 _ the-if2.true
+overflow_add-size c = omega (arith, c.from-marks.ensures, marks-few c.in-Some.c.slash, c.size_of.ensures, (size_few c.in-Some.c.value).1)
 
 pub put_char-requires : goal.put_char-requires
 put_char-requires c =
-    let the-args = c.args in
-    let the-pre = c.requires in
-    let the-if1 = c.if-value-eq-PART in
-    let the-if2 = c.if-out-at in
-    let the-size-of = c.size_of in
-    let the-if3 = c.if-slash-eq1 in (
-      character_small the-args.value (the-pre.2 the-if1.false),
-      simp length-set (omega (arith, the-if2.false, the-size-of.ensures, the-if3.true, the-pre.0)),
-    )
-
-pub returns-then-slash-eq1 : goal.returns-then-slash-eq1
-returns-then-slash-eq1 c =
-    let the-args = c.args in
-    let the-if1 = c.if-value-eq-PART in
-    let the-pre = c.requires in
-    let the-size-of = c.size_of in
-    let the-if2 = c.if-out-at in
-    let the-if3 = c.if-slash-eq1 in
-    let the-put-char = c.put_char in
-    lays-slashed the-args.out.now the-args.at the-args.slash the-args.value _ the-if1.false the-pre.1 the-size-of.ensures the-pre.0 the-if2.false _ the-if3.true the-put-char.ensures
-
-pub put_char-requires-2 : goal.put_char-requires-2
-put_char-requires-2 c =
-    let the-args = c.args in
-    let the-pre = c.requires in
-    let the-if1 = c.if-value-eq-PART in
-    let the-if2 = c.if-out-at in
-    let the-size-of = c.size_of in
-    (character_small the-args.value (the-pre.2 the-if1.false), omega (arith, the-if2.false, the-size-of.ensures, the-pre.0))
+    let long = c.if-c.auto.out in
+    let good : is_character_lem c.in-Some.c.value ≡ true = rw c.in-Some.is at c.requires.1 in
+    (character_small c.in-Some.c.value good, omega (arith, c.if-out-at.false, c.size_of.ensures, c.requires.0))
 
 pub returns : goal.returns
 returns c =
-    let the-args = c.args in
-    let the-if1 = c.if-value-eq-PART in
-    let the-pre = c.requires in
-    let the-size-of = c.size_of in
-    let the-if2 = c.if-out-at in
-    let the-if3 = c.if-slash-eq1 in
-    let the-put-char2 = c.put_char-2 in
-    lays-bare the-args.out.now the-args.at the-args.slash the-args.value _ the-if1.false the-pre.1 the-size-of.ensures the-pre.0 the-if2.false _ the-if3.false the-put-char2.ensures
+    let mid : ((c.in-Some.c.slash ≡ true) × (c.if-c.out ≡ set c.args.out.now c.args.at 0x5C)) ⊎ ((c.in-Some.c.slash ≡ false) × (c.if-c.out ≡ c.args.out.now))
+    = elim c.if-c.branch [ then-c w ↦ inl (w.if-c.true, w.out-is) | else-c w ↦ inr (w.if-c.false, w.out-is) ] in
+    rw c.in-Some.is
+    (lays-char c.args.out.now c.args.at c.in-Some.c _ _ c.from-marks.ensures c.size_of.ensures c.requires.0 c.if-out-at.false _ _ mid c.put_char.ensures)

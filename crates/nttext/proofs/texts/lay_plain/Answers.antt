@@ -1,16 +1,18 @@
 -- A run lays itself.
 use lib.Seq.{slice}
 use Rattle.nttext.proofs.Runs.{run_lays}
+use Rattle.nttext.proofs.Filling.{front-stops}
 use Rattle.nttext.proofs.texts.lay_plain.Goals as goal
+
+pub returns-in_err-last : goal.returns-in_err-last
+returns-in_err-last c =
+    rw c.from_residual.ensures
+    (front-stops c.args.s.b.now c.args.from c.args.s.to c.args.s.quoted c.args.out.now c.args.at _ _ _ (run_lays c.args.s.b.now c.args.from c.args.s.to c.args.s.quoted c.requires.1 _ c.plain_run-run.ensures) c.in_err-last.ensures)
 
 pub returns : goal.returns
 returns c =
-    let the-args = c.args in
-    let the-pre = c.requires in
-    let the-plain-run = c.plain_run-run in
-    let the-lay-run = c.lay_run-laid in
     record {
-      text = slice the-args.from the-plain-run.result the-args.b.now;
-      lays = run_lays the-args.b.now the-args.from the-args.to the-args.quoted the-pre.1 _ the-plain-run.ensures;
-      lies = the-lay-run.ensures;
+      text = slice c.args.from c.plain_run-run.result c.args.s.b.now;
+      lays = run_lays c.args.s.b.now c.args.from c.args.s.to c.args.s.quoted c.requires.1 _ c.plain_run-run.ensures;
+      lies = c.in_ok-last.ensures;
     }

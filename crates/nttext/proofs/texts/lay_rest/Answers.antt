@@ -1,50 +1,20 @@
-use native.Mathlib.Omega.{arith}
-use borrow.Author.Tests.{ltb-true}
-use Rattle.utf8.proofs.Judged.{and_left, and_right}
-use Rattle.nttext.proofs.Filling.{laid-inside, front-none, front-on, front_ends}
+-- A character and a run at a time.
+use Rattle.std.proofs.Common.{Some, None}
+use Rattle.nttext.proofs.Filling.{front-none, front-on, span-stops, front_ends}
 use Rattle.nttext.proofs.texts.lay_rest.Goals as goal
 
 pub loop-front-init : goal.loop-front-init
-loop-front-init c =
-    let the-args = c.args in
-    let the-pre = c.requires in
-    front-none the-args.b.now the-args.from the-args.to the-args.quoted the-args.out.now the-args.at the-pre.2.rising the-pre.1
+loop-front-init c = front-none c.args.s.b.now c.args.from c.args.s.to c.args.s.quoted c.args.out.now c.args.at c.requires.2.rising c.requires.1
 
-pub lay_next-front-requires : goal.lay_next-front-requires
-lay_next-front-requires c =
-    let the-if1 = c.loop-front-test in
-    let the-loop = c.loop-front in
-    let the-pre = c.requires in
-    let front = the-loop.front in
-    let inv = the-loop.invariant in (
-      ltb-true _ _ (and_right front.fits _ the-if1.true),
-      the-pre.0,
-      laid-inside _ inv.lies (and_left front.fits _ the-if1.true),
-      record { rising = inv.lays.within; given = inv.lays.goes the-pre.2.given },
-    )
-
-pub loop-front-smaller : goal.loop-front-smaller
-loop-front-smaller c =
-    let the-lay-next = c.lay_next-front in
-    omega (arith, the-lay-next.ensures.1, the-lay-next.ensures.0.lays.within)
+pub returns-in_err-front : goal.returns-in_err-front
+returns-in_err-front c =
+    rw c.from_residual.ensures
+    (span-stops c.args.s.b.now c.args.from c.args.s.to c.args.s.quoted c.args.out.now c.args.at _
+    (front-on c.args.s.b.now c.args.from c.args.s.to c.args.s.quoted c.args.out.now c.args.at _ c.loop-front.out _ _ _ None c.loop-front.invariant.lays c.loop-front.invariant.lies c.in_err-front.ensures.0))
 
 pub loop-front-preserved : goal.loop-front-preserved
 loop-front-preserved c =
-    let the-lay-next = c.lay_next-front in
-    let the-if1 = c.loop-front-test in
-    let the-loop = c.loop-front in
-    let the-args = c.args in
-    let front = the-loop.front in
-    front-on the-args.b.now the-args.from the-args.to the-args.quoted the-args.out.now the-args.at _ _ _ _ _ _ _ the-loop.invariant.lays the-loop.invariant.lies (and_left front.fits _ the-if1.true) the-lay-next.ensures.0
-
-pub shape_of-out : goal.shape_of-out
-shape_of-out c =
-    let the-loop = c.loop-front in
-    the-loop.invariant.lies.as_long
+    front-on c.args.s.b.now c.args.from c.args.s.to c.args.s.quoted c.args.out.now c.args.at _ c.loop-front.out _ _ _ (Some c.in_ok-front.front) c.loop-front.invariant.lays c.loop-front.invariant.lies c.in_ok-front.ensures.0
 
 pub returns : goal.returns
-returns c =
-    let the-if1 = c.loop-front-test in
-    let the-loop = c.loop-front in
-    let the-args = c.args in
-    front_ends the-args.b.now the-args.from the-args.to the-args.quoted the-args.out.now the-args.at _ _ the-loop.invariant the-if1.false
+returns c = front_ends c.args.s.b.now c.args.from c.args.s.to c.args.s.quoted c.args.out.now c.args.at _ _ _ c.loop-front.invariant c.loop-front-test.false

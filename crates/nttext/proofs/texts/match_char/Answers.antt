@@ -1,17 +1,13 @@
 -- By the character that stands there.
-use Rattle.nttext.proofs.Matching.{char-missing, char-seen}
+use Rattle.std.proofs.Common.{refl}
+use Rattle.nttext.proofs.Matching.{char-missing, char-there, char-other}
 use Rattle.nttext.proofs.texts.match_char.Goals as goal
 
 pub returns-then-at-end : goal.returns-then-at-end
-returns-then-at-end c =
-    let the-args = c.args in
-    let the-differs = c.differs in
-    let the-if1 = c.if-at-end in
-    char-missing the-args.out.now the-args.at the-args.end the-args.value _ _ the-differs.ensures.0 the-if1.true
+returns-then-at-end c = char-missing c.args.out.now c.args.at c.args.end c.args.value _ _ refl c.if-at-end.true
 
-pub returns : goal.returns
-returns c =
-    let the-args = c.args in
-    let the-pre = c.requires in
-    let the-see = c.see-c in
-    char-seen the-args.out.now the-args.at the-args.end the-args.value _ _ the-pre.2 the-see.ensures
+pub returns-then-c-value : goal.returns-then-c-value
+returns-then-c-value c = char-there c.args.out.now c.args.at c.args.end c.args.value _ _ c.requires.2 c.see-c.ensures c.if-c-value.true
+
+pub returns-else-c-value : goal.returns-else-c-value
+returns-else-c-value c = char-other c.args.out.now c.args.at c.args.end c.args.value _ _ c.requires.2 c.see-c.ensures c.if-c-value.false

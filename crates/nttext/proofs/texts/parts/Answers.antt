@@ -1,51 +1,31 @@
 -- By the term's sort, and a literal's mark.
-use mathlib.Core.Path.{sym, ◌∙◌}
+use Rattle.std.proofs.Common.{ap}
 use native.Mathlib.Omega.{arith}
+use Rattle.ntline.specs.Kinds.{sort_number}
 use Rattle.nttext.proofs.Parts.{name_has, parts-name, parts-blank, mark_there, tail-inside, parts-plain, parts-marked}
 use Rattle.nttext.proofs.texts.parts.Goals as goal
 
-pub returns-then-t-eq-NAME : goal.returns-then-t-eq-NAME
-returns-then-t-eq-NAME c =
-    let the-args = c.args in
-    let the-pre = c.requires in
-    let the-if1 = c.if-t-eq-NAME in
-    parts-name the-args.b.now the-args.end the-pre.0 the-args.t the-pre.1 the-if1.true
+pub overflow_sub-result : goal.overflow_sub-result
+overflow_sub-result c = omega (arith, name_has c.args.b.now c.args.end c.requires.0 c.args.t c.requires.1 (ap sort_number c.in-Name.is))
 
-pub returns-then-t-eq-BLANK : goal.returns-then-t-eq-BLANK
-returns-then-t-eq-BLANK c =
-    let the-args = c.args in
-    let the-pre = c.requires in
-    let the-if2 = c.if-t-eq-BLANK in
-    parts-blank the-args.b.now the-args.end the-pre.0 the-args.t the-pre.1 the-if2.true
+pub overflow_sub-result-in-Name : goal.overflow_sub-result-in-Name
+overflow_sub-result-in-Name c = omega (arith, name_has c.args.b.now c.args.end c.requires.0 c.args.t c.requires.1 (ap sort_number c.in-Name.is))
 
 pub is_plain-requires : goal.is_plain-requires
-is_plain-requires c =
-    let the-args = c.args in
-    let the-pre = c.requires in
-    (tail-inside the-args.b.now the-args.end the-pre.0 the-args.t the-pre.1, mark_there the-args.b.now the-args.end the-pre.0 the-args.t the-pre.1)
+is_plain-requires c = (tail-inside c.args.b.now c.args.end c.requires.0 c.args.t c.requires.1, mark_there c.args.b.now c.args.end c.requires.0 c.args.t c.requires.1)
+
+pub returns-in-Name : goal.returns-in-Name
+returns-in-Name c = parts-name c.args.b.now c.args.end c.requires.0 c.args.t c.requires.1 (ap sort_number c.in-Name.is)
+
+pub returns-in-Blank : goal.returns-in-Blank
+returns-in-Blank c = parts-blank c.args.b.now c.args.end c.requires.0 c.args.t c.requires.1 (ap sort_number c.in-Blank.is)
 
 pub returns-then-is_plain : goal.returns-then-is_plain
 returns-then-is_plain c =
-    let the-args = c.args in
-    let the-pre = c.requires in
-    let the-if1 = c.if-t-eq-NAME in
-    let the-if2 = c.if-t-eq-BLANK in
-    let the-if3 = c.if-is_plain in
-    let the-is-plain = c.is_plain in
-    parts-plain the-args.b.now the-args.end the-pre.0 the-args.t the-pre.1 the-if1.false the-if2.false (sym the-if3.true ∙ the-is-plain.ensures)
+    let two = ap sort_number c.in-Literal.is in
+    parts-plain c.args.b.now c.args.end c.requires.0 c.args.t c.requires.1 (λ e. omega arith) (λ e. omega arith) c.if-is_plain.ensures
 
-pub returns : goal.returns
-returns c =
-    let the-args = c.args in
-    let the-pre = c.requires in
-    let the-if1 = c.if-t-eq-NAME in
-    let the-if2 = c.if-t-eq-BLANK in
-    let the-if3 = c.if-is_plain in
-    let the-is-plain = c.is_plain in
-    parts-marked the-args.b.now the-args.end the-pre.0 the-args.t the-pre.1 the-if1.false the-if2.false (sym the-if3.false ∙ the-is-plain.ensures)
-
-pub overflow_sub-result : goal.overflow_sub-result
-overflow_sub-result c = omega (arith, name_has c.args.b.now c.args.end c.requires.0 c.args.t c.requires.1 c.if-t-eq-NAME.true)
-
-pub overflow_sub-result-then-t-eq-NAME : goal.overflow_sub-result-then-t-eq-NAME
-overflow_sub-result-then-t-eq-NAME c = omega (arith, name_has c.args.b.now c.args.end c.requires.0 c.args.t c.requires.1 c.if-t-eq-NAME.true)
+pub returns-else-is_plain : goal.returns-else-is_plain
+returns-else-is_plain c =
+    let two = ap sort_number c.in-Literal.is in
+    parts-marked c.args.b.now c.args.end c.requires.0 c.args.t c.requires.1 (λ e. omega arith) (λ e. omega arith) c.if-is_plain.ensures

@@ -3,8 +3,8 @@ use Prim.Native.Nat.{◌-◌}
 use Rattle.nttext.proofs.Runs.{UnitLoop}
 use Rattle.nttext.proofs.texts.unit.Given as goal
 
-abbrev pub invariant-loop-k : goal.invariant-loop-k
-invariant-loop-k l = UnitLoop l.b l.from l.to l.quoted l.k
+abbrev pub invariant-loop-s : goal.invariant-loop-s
+invariant-loop-s l = UnitLoop l.s.b.now l.from l.s.to l.s.quoted l.k
 
-abbrev pub decreases-loop-k : goal.decreases-loop-k
-decreases-loop-k l = l.to - l.k.at
+abbrev pub decreases-loop-s : goal.decreases-loop-s
+decreases-loop-s l = l.s.to - l.k.at

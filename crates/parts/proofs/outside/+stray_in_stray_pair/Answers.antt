@@ -1,96 +1,49 @@
 use native.Mathlib.Omega.{arith}
-use Rattle.parts.proofs.Fitting as read
+use Rattle.parts.proofs.Fitting.{fits}
 use Rattle.parts.proofs.Second as laws
+use mathlib.Core.Path.{◌≡◌, refl}
+use Prim.Native.Nat.{ℕ, ◌+◌}
+use borrow.Author.Tests.{ne_eqb}
+use Rattle.std.specs.Prelude.{Option, Some, None}
+use Rattle.std.specs.Option.{option_or}
+use Rattle.parts.specs.Bound.{or_else, numbered}
 use Rattle.parts.proofs.outside.+stray_in_stray_pair.Goals as goal
 
-pub stray_in-field_at-h-requires : goal.stray_in-field_at-h-requires
-stray_in-field_at-h-requires t c =
-    let the-pre = c.requires in
-    the-pre
+numbered-or : (a b : Option ℕ) → numbered (option_or a b) ≡ or_else (numbered a) (numbered b)
+numbered-or None b = refl
+numbered-or (Some p) b = rw (ne_eqb (p + 1) 0 (λ z. omega arith)) refl
+
+pub stray_in-returns-in_err-f : goal.stray_in-returns-in_err-f
+stray_in-returns-in_err-f t c = rw c.from_residual.ensures (laws.stray-unfit _ _ _ _ c.in_err-f.ensures)
 
 pub stray_in-stray_in-inner-requires : goal.stray_in-stray_in-inner-requires
-stray_in-stray_in-inner-requires t c =
-    let the-args = c.args in
-    let the-pre = c.requires in
-    let w = read.fits the-args.b.now the-pre.0 c.in-Within.ensures in omega (arith, the-pre, w)
+stray_in-stray_in-inner-requires t c = let w = fits _ c.requires.0 c.in_ok-f.ensures in omega arith
 
 pub stray_in-stray_test-requires : goal.stray_in-stray_test-requires
-stray_in-stray_test-requires t c =
-    let the-args = c.args in
-    let the-pre = c.requires in
-    let w = read.fits the-args.b.now the-pre.0 c.in-Within.ensures in omega (arith, the-pre, w)
+stray_in-stray_test-requires t c = let w = fits _ c.requires.0 c.in_ok-f.ensures in omega arith
 
 pub stray_in-stray_pair-requires : goal.stray_in-stray_pair-requires
-stray_in-stray_pair-requires t c =
-    let the-args = c.args in
-    let the-pre = c.requires in
-    let w = read.fits the-args.b.now the-pre.0 c.in-Within.ensures in omega (arith, the-pre, w)
+stray_in-stray_pair-requires t c = let w = fits _ c.requires.0 c.in_ok-f.ensures in omega arith
 
-pub stray_in-returns-in-Unfit : goal.stray_in-returns-in-Unfit
-stray_in-returns-in-Unfit t c =
-    let the-args = c.args in
-    laws.stray-unfit the-args.b.now the-args.at the-args.end the-args.outer c.in-Unfit.ensures
+pub stray_in-returns-in-16 : goal.stray_in-returns-in-16
+stray_in-returns-in-16 t c = laws.stray-triple _ _ _ c.in_ok-f.ensures _ c.in-16.is
 
-pub stray_in-returns-then-tag-eq-TRIPLE : goal.stray_in-returns-then-tag-eq-TRIPLE
-stray_in-returns-then-tag-eq-TRIPLE t c =
-    let the-args = c.args in
-    let the-if1 = c.if-tag-eq-TRIPLE in
-    laws.stray-triple the-args.b.now the-args.at the-args.end c.in-Within.ensures the-args.outer the-if1.true
+pub stray_in-returns-in-19 : goal.stray_in-returns-in-19
+stray_in-returns-in-19 t c = laws.stray-an_only _ _ _ c.in_ok-f.ensures _ c.in-19.is (c.stray_test.ensures c.stray_in-inner.ensures)
 
-pub stray_in-returns-then-tag-eq-ONLY : goal.stray_in-returns-then-tag-eq-ONLY
-stray_in-returns-then-tag-eq-ONLY t c =
-    let the-args = c.args in
-    let the-if2 = c.if-tag-eq-ONLY in
-    let the-stray-test = c.stray_test in
-    let the-stray-in = c.stray_in-inner in
-    laws.stray-an_only the-args.b.now the-args.at the-args.end c.in-Within.ensures the-args.outer the-if2.true (the-stray-test.ensures the-stray-in.ensures)
+pub stray_in-returns-in_default : goal.stray_in-returns-in_default
+stray_in-returns-in_default t c = laws.stray-a_pair _ _ _ c.in_ok-f.ensures _ (λ z. omega arith) (λ z. omega arith) c.stray_pair.ensures
 
-pub stray_in-returns-else-tag-eq-ONLY : goal.stray_in-returns-else-tag-eq-ONLY
-stray_in-returns-else-tag-eq-ONLY t c =
-    let the-args = c.args in
-    let the-if1 = c.if-tag-eq-TRIPLE in
-    let the-if2 = c.if-tag-eq-ONLY in
-    let the-stray-pair = c.stray_pair in
-    laws.stray-a_pair the-args.b.now the-args.at the-args.end c.in-Within.ensures the-args.outer the-if1.false the-if2.false the-stray-pair.ensures
-
-pub stray_pair-field_at-h-requires : goal.stray_pair-field_at-h-requires
-stray_pair-field_at-h-requires t c =
-    let the-pre = c.requires in
-    the-pre
-
-pub stray_pair-used_in-left-requires : goal.stray_pair-used_in-left-requires
-stray_pair-used_in-left-requires t c =
-    let the-pre = c.requires in
-    omega (arith, the-pre)
+pub stray_pair-returns-in_err-mid : goal.stray_pair-returns-in_err-mid
+stray_pair-returns-in_err-mid t c = rw c.from_residual.ensures (laws.stray-pair_unfit _ _ _ _ c.in_err-mid.ensures)
 
 pub stray_pair-used_in-right-requires : goal.stray_pair-used_in-right-requires
-stray_pair-used_in-right-requires t c =
-    let the-args = c.args in
-    let the-pre = c.requires in
-    let w = read.fits the-args.b.now the-pre.0 c.in-Within.ensures in omega (arith, the-pre, w)
-
-pub stray_pair-stray_in-first-requires : goal.stray_pair-stray_in-first-requires
-stray_pair-stray_in-first-requires t c =
-    let the-pre = c.requires in
-    omega (arith, the-pre)
+stray_pair-used_in-right-requires t c = let w = fits _ c.requires.0 c.in_ok-mid.ensures in omega arith
 
 pub stray_pair-stray_in-second-requires : goal.stray_pair-stray_in-second-requires
-stray_pair-stray_in-second-requires t c =
-    let the-args = c.args in
-    let the-pre = c.requires in
-    let w = read.fits the-args.b.now the-pre.0 c.in-Within.ensures in omega (arith, the-pre, w)
+stray_pair-stray_in-second-requires t c = let w = fits _ c.requires.0 c.in_ok-mid.ensures in omega arith
 
-pub stray_pair-returns-in-Unfit : goal.stray_pair-returns-in-Unfit
-stray_pair-returns-in-Unfit t c =
-    let the-args = c.args in
-    laws.stray-pair_unfit the-args.b.now the-args.at the-args.end the-args.outer c.in-Unfit.ensures
-
-pub stray_pair-returns-in-Within : goal.stray_pair-returns-in-Within
-stray_pair-returns-in-Within t c =
-    let the-args = c.args in
-    let the-used-in = c.used_in-left in
-    let the-used-in2 = c.used_in-right in
-    let the-stray-in = c.stray_in-first in
-    let the-stray-in2 = c.stray_in-second in
-    let the-or-else = c.or_else in
-    laws.stray-two the-args.b.now the-args.at the-args.end c.in-Within.ensures the-args.outer the-used-in.ensures the-used-in2.ensures the-stray-in.ensures the-stray-in2.ensures the-or-else.ensures
+pub stray_pair-returns : goal.stray_pair-returns
+stray_pair-returns t c =
+    laws.stray-two _ _ _ c.in_ok-mid.ensures _ c.used_in-left.ensures c.used_in-right.ensures c.stray_in-first.ensures c.stray_in-second.ensures
+    (rw c.or.ensures (numbered-or c.stray_in-first.result c.stray_in-second.result))

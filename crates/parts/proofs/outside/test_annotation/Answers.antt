@@ -11,20 +11,16 @@ use Rattle.parts.specs.Format.{term_at, test_at}
 use Rattle.parts.proofs.Tags.{two_terms}
 use Rattle.parts.proofs.outside.test_annotation.Goals as goal
 
-pub returns-then-mark-lt2 : goal.returns-then-mark-lt2
+pub returns-then-b-from-lt2 : goal.returns-then-b-from-lt2
 unfolding test_at
-returns-then-mark-lt2 c =
+returns-then-b-from-lt2 c =
     let the-args = c.args in
     let s = the-args.b.now in
     let at = the-args.from in
-    two_terms test_annotation (get_or s at 0) (term_at s (at + 1)) (term_at s (at + 4)) (least (two_at s (at + 1)) (eight_at s (at + 3))) c.if-mark-lt2.true refl
+    two_terms test_annotation (get_or s at 0) (term_at s (at + 1)) (term_at s (at + 4)) (least (two_at s (at + 1)) (eight_at s (at + 3))) c.if-b-from-lt2.true refl
 
-pub returns-else-mark-lt2 : goal.returns-else-mark-lt2
+pub returns : goal.returns
 unfolding test_at
-returns-else-mark-lt2 c =
-    let the-args = c.args in
-    let the-if1 = c.if-mark-lt2 in
-    let the-two = c.two-v in
-    let the-bit = c.bit in
-    let mark = get_or the-args.b.now the-args.from 0 in
-    rw (ne_eqb mark 0 (λ z. omega (arith, z, the-if1.false)), ne_eqb mark 1 (λ z. omega (arith, z, the-if1.false)), ← the-two.ensures, ← the-bit.ensures.0) refl
+returns c =
+    let mark = get_or c.args.b.now c.args.from 0 in
+    rw (ne_eqb mark 0 (λ z. omega (arith, z)), ne_eqb mark 1 (λ z. omega (arith, z)), c.annotation_bit.ensures, c.from.ensures, c.two.ensures) refl

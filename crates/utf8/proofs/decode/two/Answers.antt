@@ -1,29 +1,18 @@
 -- Two bytes are a character of the grammar, or none.
-use Rattle.std.proofs.Common.{ap}
-use Rattle.std.specs.Prelude.{not}
 use native.Mathlib.Omega.{arith}
 use Rattle.utf8.proofs.Decoding.{tail-found, tail-missed, not-two, so_two}
 use Rattle.utf8.proofs.decode.two.Goals as goal
+use Rattle.utf8.proofs.decode.two.Goals.{then-x-lt194-via-then-x-lt194, then-x-lt194-via-else-x-lt194+then-not-is_tail}
 
 pub returns-then-x-lt194 : goal.returns-then-x-lt194
 returns-then-x-lt194 c =
-    let the-args = c.args in
-    let the-if1 = c.if-x-lt194 in
-    not-two the-args.x the-args.y (λ t. let h = the-if1.true in omega arith)
-
-pub returns-then-not-is_tail : goal.returns-then-not-is_tail
-returns-then-not-is_tail c =
-    let the-args = c.args in
-    let the-is-tail = c.is_tail in
-    let the-if2 = c.if-not-is_tail in
-    not-two the-args.x the-args.y (λ t. tail-missed the-args.y _ the-is-tail.ensures (ap not the-if2.true) t.y_low t.y_high)
+    not-two c.args.x c.args.y
+    (λ t. elim c.then-x-lt194.branch [
+      | then-x-lt194-via-then-x-lt194 w ↦ omega (arith, t.x_low)
+      | then-x-lt194-via-else-x-lt194+then-not-is_tail w ↦ tail-missed c.args.y w.if-not-is_tail.ensures t.y_low t.y_high
+    ])
 
 pub returns : goal.returns
 returns c =
-    let the-args = c.args in
-    let the-is-tail = c.is_tail in
-    let the-if2 = c.if-not-is_tail in
-    let the-if1 = c.if-x-lt194 in
-    let the-pre = c.requires in
-    let found = tail-found the-args.y _ the-is-tail.ensures (ap not the-if2.false) in
-    so_two the-args.x the-args.y (record { x_low = the-if1.false; x_high = the-pre; y_low = found.0; y_high = found.1 })
+    let found = tail-found c.args.y c.if-not-is_tail.ensures in
+    so_two c.args.x c.args.y (record { x_low = c.if-x-lt194.false; x_high = c.requires; y_low = found.0; y_high = found.1 })

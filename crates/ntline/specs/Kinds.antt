@@ -1,0 +1,40 @@
+-- The terminals and the sorts of terms, as the code names them, by their numbers.
+use Rattle.std.specs.Prelude.{Option, Some, None, ℕ}
+use Rattle.ntline.specs.declared.lexing.Kind.{Kind}
+use Rattle.ntline.specs.declared.lexing.Kind.TheVariants.{Space, Dot, Hats, Remark, Label, Tag, Iri, String}
+use Rattle.ntline.specs.declared.lexing.Terminal.{Terminal}
+use Rattle.ntline.specs.declared.lines.Sort.{Sort}
+use Rattle.ntline.specs.declared.lines.Sort.TheVariants.{Name, Blank, Literal}
+use Rattle.ntline.specs.declared.lines.Span.{Span}
+use Rattle.ntline.specs.Lexing.{none, a_space, a_dot, a_hats, a_remark, a_label, a_tag, an_iri, a_string}
+
+abbrev pub number_of : Kind → ℕ
+number_of Space = a_space
+number_of Dot = a_dot
+number_of Hats = a_hats
+number_of Remark = a_remark
+number_of Label = a_label
+number_of Tag = a_tag
+number_of Iri = an_iri
+number_of String = a_string
+
+abbrev pub kind_number : Option Kind → ℕ
+kind_number (Some k) = number_of k
+kind_number None = none
+
+-- the terminal found, and where it ends: none, and where it would begin, where none is
+abbrev pub found_kind : Option Terminal → ℕ
+found_kind (Some t) = number_of t.kind
+found_kind None = none
+
+abbrev pub found_to : ℕ → Option Terminal → ℕ
+found_to at (Some t) = t.to
+found_to at None = at
+
+abbrev pub sort_number : Sort → ℕ
+sort_number Name = 0
+sort_number Blank = 1
+sort_number Literal = 2
+
+abbrev pub span : Sort → ℕ → ℕ → ℕ → Span
+span sort from to tail = record { sort = sort; from = from; to = to; tail = tail }
