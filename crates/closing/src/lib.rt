@@ -69,7 +69,8 @@ fn close_table(table: &mut Table, rules: RuleSet) -> Result<(), Refused>
     ensures kept { Kept table.old table.new }
     ensures closing { Closing (kind_number table.old.kind) (set_number rules) (lanes_in table.old) table.old.count (lanes_in table.new) (verdict_in result).number (verdict_in result).place table.new.count }
 {
-    table.rows().check(table.kind)?;
+    let rows = table.rows();
+    rows.check(table.kind)?;
     match saturate(table, rules.number()) {
         Ok(()) => {
             wipe_past(table);
