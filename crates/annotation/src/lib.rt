@@ -108,7 +108,7 @@ impl Kind {
         ensures { result ≡ (algebra (kind_number self)).meet a b }
     {
         match self {
-            Kind::Years | Kind::Sheets => a & b,
+            Kind::Years | Kind::Sheets => in_both(a, b),
             Kind::Degree => a.min(b),
             Kind::Strict => (a + b).saturating_sub(FULL_DEGREE),
         }
@@ -119,7 +119,7 @@ impl Kind {
         ensures { result ≡ (algebra (kind_number self)).join a b }
     {
         match self {
-            Kind::Years | Kind::Sheets => a | b,
+            Kind::Years | Kind::Sheets => in_either(a, b),
             Kind::Degree | Kind::Strict => a.max(b),
         }
     }
@@ -130,6 +130,19 @@ impl Kind {
     {
         self.join(a, b) == b
     }
+}
+
+// Bit by bit, for sets: years, and combinations of sheets.
+fn in_both(a: u64, b: u64) -> u64
+    ensures { result ≡ bit_and a b }
+{
+    a & b
+}
+
+fn in_either(a: u64, b: u64) -> u64
+    ensures { result ≡ bit_or a b }
+{
+    a | b
 }
 
 // Whether every combination that is larger than one that is enough is enough too: one sheet more at a time.

@@ -63,16 +63,16 @@ module _ (kind : ℕ) (b : List ℕ) (start : ℕ) (l : Lanes) where
     turn (suc fuel) e q = (fuel, refl, λ base rules. rw (lt-leb (length b) at q) refl)
 
     module _ (q : at < length b) where
-      stops : (v : Verdict) → v ≡ first steps → 0 < v.number → (m' : Lanes) → (n : ℕ) × Sound kind m' n → length m'.subj ≡ length l.subj → FieldsRefused kind b start l m' v
-      stops v e p m' s as_long = record {
+      stops : (v : Verdict) → v ≡ first steps → 0 < v.number → (m' : Lanes) (n : ℕ) → Sound kind m' n → length m'.subj ≡ length l.subj → FieldsRefused kind b start l m' n v
+      stops v e p m' n s as_long = record {
         meaning = λ base rules. h.meaning base rules ∙ (turn h.fuel h.enough q).2 base rules ∙ rw (← e, ne_eqb v.number 0 (λ z. omega arith)) refl;
         sound = s;
         as_long = as_long;
       }
 
-      pub field_refused : (v : Verdict) → RefusedBy (field_checks kind b at) v → FieldsRefused kind b start l m v
+      pub field_refused : (v : Verdict) → RefusedBy (field_checks kind b at) v → FieldsRefused kind b start l m count v
       field_refused v r =
-          stops v (r.verdict_is ∙ sym (first_stops (field_checks kind b at) _ (rw (← r.verdict_is) r.some))) r.some m (count, h.sound) h.as_long
+          stops v (r.verdict_is ∙ sym (first_stops (field_checks kind b at) _ (rw (← r.verdict_is) r.some))) r.some m count h.sound h.as_long
 
       module _ (c : Content) (f : RowSaid (field_checks kind b at) b at (behind b at) c) where
         pub field_ready : PutInto kind (row_of c) m count
@@ -94,8 +94,8 @@ module _ (kind : ℕ) (b : List ℕ) (start : ℕ) (l : Lanes) where
           still_long : length m'.subj ≡ length l.subj
           still_long = p.as_long.same_subj ∙ h.as_long
 
-          pub field_full : full ≡ true → (v : Verdict) → v ≡ verdict 12 at → FieldsRefused kind b start l m' v
-          field_full e v ev = stops v (ev ∙ sym (past_field ∙ first_holds _ 12 at [] (sym full_judged ∙ e))) (rw ev (omega arith)) m' (n, p.sound) still_long
+          pub field_full : full ≡ true → (v : Verdict) → v ≡ verdict 12 at → FieldsRefused kind b start l m' n v
+          field_full e v ev = stops v (ev ∙ sym (past_field ∙ first_holds _ 12 at [] (sym full_judged ∙ e))) (rw ev (omega arith)) m' n p.sound still_long
 
           pub field_put : full ≡ false → Reached kind b start l m' c.next n
           field_put e =

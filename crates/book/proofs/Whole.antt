@@ -33,9 +33,9 @@ module _ (kind base rules : ℕ) (b : List ℕ) (start : ℕ) (l : Lanes) (fresh
   abbrev Body : Lanes → ReadDone → Type 0
   Body = ReadInto (fields_of kind base rules b (length l.subj) start) l
 
-  pub body_refused : (v : Verdict) → FieldsRefused kind b start l m v → (m' : Lanes) (d : ReadDone) → m' ≡ zeroed m → d ≡ refused_done v.number v.place → Body m' d
-  body_refused v f m' d em e =
-      let same-zeros : zeroed m ≡ zeroed l = zeroed-alike (sound-as_long fresh.sound f.sound.1 f.as_long) in
+  pub body_refused : (v : Verdict) (count : ℕ) → FieldsRefused kind b start l m count v → (m' : Lanes) (d : ReadDone) → m' ≡ zeroed m → d ≡ refused_done v.number v.place → Body m' d
+  body_refused v count f m' d em e =
+      let same-zeros : zeroed m ≡ zeroed l = zeroed-alike (sound-as_long fresh.sound f.sound f.as_long) in
       rw (f.meaning base rules, em, same-zeros) (refused-into l v.number v.place d e)
 
   pub body_done : (count : ℕ) → FieldsDone kind b start l m count → Body m (record { number = 0; place = 0; kind = kind; base = base; rules = rules; count = count })

@@ -110,15 +110,15 @@ pub record FieldsDone (kind : ℕ) (b : List ℕ) (start : ℕ) (l m : Lanes) (c
   pub sound : Sound kind m count
   pub as_long : length m.subj ≡ length l.subj
 
--- one is refused, behind some rows
-pub record FieldsRefused (kind : ℕ) (b : List ℕ) (start : ℕ) (l m : Lanes) (v : Verdict) : Type 0 where
+-- one is refused, behind count rows
+pub record FieldsRefused (kind : ℕ) (b : List ℕ) (start : ℕ) (l m : Lanes) (count : ℕ) (v : Verdict) : Type 0 where
   pub meaning : (base rules : ℕ) → fields_of kind base rules b (length l.subj) start ≡ refused v
-  pub sound : (count : ℕ) × Sound kind m count
+  pub sound : Sound kind m count
   pub as_long : length m.subj ≡ length l.subj
 
 abbrev pub FieldsRead : ℕ → List ℕ → ℕ → Lanes → Lanes → ℕ → Result (Unit {0}) Refused → Type 0
 FieldsRead kind b start l m count (Ok u) = FieldsDone kind b start l m count
-FieldsRead kind b start l m count (Err e) = FieldsRefused kind b start l m (verdict_of e)
+FieldsRead kind b start l m count (Err e) = FieldsRefused kind b start l m count (verdict_of e)
 
 -- "A refused reading gives kind, base year and count 0", and rule set 0
 abbrev pub refused_done : ℕ → ℕ → ReadDone

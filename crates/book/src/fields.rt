@@ -1,5 +1,4 @@
 // Field after field into the lent table.
-ghost use Rattle.std.specs.Prelude.{◌≡◌};
 ghost use Rattle.annotation.specs.Numbered.{kind_number};
 ghost use Rattle.table.specs.Lent.{lanes_in, Kept};
 ghost use Rattle.book.specs.Inner.{Fresh, FieldsRead};
@@ -9,13 +8,13 @@ use field::Reader;
 use table::{Full, Table};
 use term::{Refusal, Refused};
 
-// Every field from `start` on, in order, until one is refused.
+// Every field from `start` on, in order, into a table that has no rows yet, until one is refused.
 pub fn read_fields(table: &mut Table, book: &[u8], start: usize) -> Result<(), Refused>
-    requires fresh { Fresh (kind_number table.old.kind) (lanes_in table.old) }
-    requires no_row { table.old.count ≡ 0 }
+    requires { Fresh (kind_number table.old.kind) (lanes_in table.old) }
     ensures kept { Kept table.old table.new }
     ensures read { FieldsRead (kind_number table.old.kind) book.now start (lanes_in table.old) (lanes_in table.new) table.new.count result }
 {
+    table.count = 0;
     let mut reader = Reader::stand(book, start);
     while reader.at < reader.src.len() {
         let field = content_at(table.kind, reader.src, reader.at, reader.field())?;

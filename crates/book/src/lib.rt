@@ -59,7 +59,6 @@ fn refused(e: Refused) -> ReadDone
 // What a legal head says, and the fields behind it read into the table, which is emptied first; a refusal leaves all rows zero.
 fn read_fields_anew(table: &mut Table, book: &[u8], head: Head) -> ReadDone
     requires fresh { Fresh (kind_number head.kind) (zeroed (lanes_in table.old)) }
-    requires no_row { table.old.count ≡ 0 }
     requires of_its_kind { table.old.kind ≡ head.kind }
     ensures kept { Kept table.old table.new }
     ensures read { ReadInto (fields_of (kind_number head.kind) head.base (set_number head.rules) book.now (length (zeroed (lanes_in table.old)).subj) head.next) (zeroed (lanes_in table.old)) (lanes_in table.new) result }

@@ -14,7 +14,7 @@ returns-in-Err-clause-read c =
     let h = a.head in
     let of_head = c.wipe.ensures.kept.same_kind ∙ c.requires.of_its_kind in
     let f = rw (of_head, c.wipe.ensures.wiped) at c.in-Err.ensures.read in
-    body_refused (kind_number h.kind) h.base (set_number h.rules) a.book.now h.next (zeroed (lanes_in a.table.now)) c.requires.fresh _ (verdict_of c.in-Err.refusal) f _ _ c.wipe-in-Err.ensures.wiped c.refused.ensures
+    body_refused (kind_number h.kind) h.base (set_number h.rules) a.book.now h.next (zeroed (lanes_in a.table.now)) c.requires.fresh _ (verdict_of c.in-Err.refusal) _ f _ _ c.wipe-in-Err.ensures.wiped c.refused.ensures
 
 pub returns-in-Ok-clause-read : goal.returns-in-Ok-clause-read
 returns-in-Ok-clause-read c =

@@ -5,7 +5,7 @@ use Rattle.annotation.proofs.Kind.join.Goals as goal
 
 pub returns-in-Years : goal.returns-in-Years
 unfolding algebra
-returns-in-Years c = elim c.in-Years.is [ inl e ↦ rw e | inr e ↦ rw e ]
+returns-in-Years c = elim c.in-Years.is [ inl e ↦ rw e c.in_either.ensures | inr e ↦ rw e c.in_either.ensures ]
 
 pub returns-in-Degree : goal.returns-in-Degree
 unfolding algebra

@@ -23,8 +23,8 @@ loop-reader-init c =
     record {
       kept = search rules;
       on_book = ap (λ (s : Bor (List ℕ)). s.now) stood.0;
-      reached = subst (λ n. Reached (kind_number t.kind) a.book.now a.start l l n t.count) (sym stood.1)
-          (subst (λ n. Reached (kind_number t.kind) a.book.now a.start l l a.start n) (sym c.requires.no_row) (reached-start (kind_number t.kind) a.book.now a.start l c.requires.fresh));
+      reached = subst (λ n. Reached (kind_number t.kind) a.book.now a.start l l n 0) (sym stood.1)
+          (reached-start (kind_number t.kind) a.book.now a.start l c.requires);
     }
 
 pub returns-in_err-field-clause-read : goal.returns-in_err-field-clause-read
@@ -81,4 +81,4 @@ returns-clause-read c =
     let t = a.table.now in
     let it = c.loop-reader in
     reached-end (kind_number t.kind) a.book.now a.start (lanes_in t) (lanes_in it.table) it.reader.at it.table.count it.invariant.reached
-    c.requires.fresh.sound (omega (arith, c.loop-reader-test.false, ap length it.invariant.on_book))
+    c.requires.sound (omega (arith, c.loop-reader-test.false, ap length it.invariant.on_book))
