@@ -7,6 +7,7 @@ pub mod Marking
 pub mod Paying
 pub mod Turning
 pub mod Whole
+pub mod WrongCount
 -- What is shown of the public call.
 pub mod RunDetermined
 pub mod RunBounds
