@@ -9,9 +9,11 @@ ghost use Rattle.ruleset.specs.Numbered.{set_number};
 ghost use Rattle.table.specs.Lent.{before, after, lanes_in, Kept};
 ghost use Rattle.closing.specs.Closing.{Closing};
 
+mod judge;
 mod known;
 mod rest;
 
+pub use judge::check_with;
 use known::known;
 use rest::wipe_past;
 use rounds::saturate;

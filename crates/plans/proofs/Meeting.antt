@@ -38,7 +38,7 @@ module _ (K : Algebra) (L : Laws K) (G : Graph) (v : Valued K G) where
         met-lower each z (K.meet a (G t)) (K.meet a' (G t)) (L.meet_value a (G t) va (v.value t)) (L.meet_value a' (G t) va' (v.value t))
         (meet-at_most_left K L a a' (G t) va va' (v.value t) low) (o.obeyed z);
   }
-  obeyed_lower (Alone s p) a a' va va' low o = record { obeyed = λ named. at_most_trans K L a a' _ low (o.obeyed named) }
+  obeyed_lower (Alone s p o') a a' va va' low o = record { obeyed = λ named. at_most_trans K L a a' _ low (o.obeyed named) }
 
 -- all of a list, by their index
 module _ {A : Type 0} (P : A → Type 0) (past : A) where

@@ -27,12 +27,12 @@ object_of_each (Behind d) = d.s
 abbrev pub subject_of : Plan → ℕ
 subject_of Off = 0
 subject_of (Rows q r each) = subject_of_each each
-subject_of (Alone s p) = s
+subject_of (Alone s p o) = s
 
 abbrev pub object_of : Plan → ℕ
 object_of Off = 0
 object_of (Rows q r each) = object_of_each each
-object_of (Alone s p) = s
+object_of (Alone s p o) = o
 
 -- nothing to do
 abbrev pub off_plan : Plan
@@ -52,7 +52,7 @@ behind_plan q r t s p = Rows q r (Behind (record { t = t; s = s; p = p }))
 
 -- where `on`, no row: it gives (s p s) by itself
 abbrev pub alone_if : Bool → ℕ → ℕ → Plan
-alone_if on s p = cond on (Alone s p) Off
+alone_if on s p = cond on (Alone s p s) Off
 
 -- a line for each rule, of the triple (x d y): 2a, 2b, 3a, 3b, 4a, 4b, 5a, 5b
 unfoldable pub plans_of : ℕ → ℕ → ℕ → List Plan
@@ -117,7 +117,7 @@ Met K G (Behind d) z c = (w : ℕ) → Drawn (triple d.s d.p w) → AtMost K (K.
 abbrev pub ObeyedBy : Algebra → Graph → Plan → ℕ → Type 0
 ObeyedBy K G Off a = Unit {0}
 ObeyedBy K G (Rows q r each) a = (z : ℕ) → Met K G each z (K.meet a (G (triple q r z)))
-ObeyedBy K G (Alone s p) a = Drawn (triple s p s) → AtMost K a (G (triple s p s))
+ObeyedBy K G (Alone s p o) a = Drawn (triple s p o) → AtMost K a (G (triple s p o))
 
 -- so it is in a graph
 pub record Obeyed (K : Algebra) (G : Graph) (plan : Plan) (a : ℕ) : Type 0 where

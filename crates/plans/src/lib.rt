@@ -37,8 +37,8 @@ pub enum Plan {
     Off,
     // The rows that begin with q and r are looked for.
     Rows { q: u16, r: u16, each: Each },
-    // No row is looked for, and the plan itself gives (s p s).
-    Alone { s: u16, p: u16 },
+    // No row is looked for, and the plan itself gives (s p o).
+    Alone { s: u16, p: u16, o: u16 },
 }
 
 impl Plan {
@@ -96,7 +96,11 @@ fn behind_plan(q: u16, r: u16, t: u16, s: u16, p: u16) -> Plan
 fn alone_plan(on: bool, s: u16, p: u16) -> Plan
     ensures { result ≡ alone_if on s p }
 {
-    if on { Plan::Alone { s, p } } else { Plan::Off }
+    if on {
+        Plan::Alone { s, p, o: s }
+    } else {
+        Plan::Off
+    }
 }
 
 // The rules, and the rules with the reflexive lines of rule set 2.

@@ -10,11 +10,9 @@ use Rattle.annotation.proofs.KindLaws.{laws}
 use Rattle.annotation.proofs.Order.{meet-at_most_right}
 use Rattle.table.specs.declared.lent.Table.{Table}
 use Rattle.table.specs.declared.put.Done.{Done}
-use Rattle.table.specs.declared.put.Full.{Full}
 use Rattle.table.specs.Rows.{Lanes, row, triple, key_of, row_at, rows_of}
 use Rattle.table.specs.Lent.{lanes_in}
 use Rattle.table.specs.Places.{Placed}
-use Rattle.table.specs.Puts.{is_full, has_changed}
 use Rattle.table.proofs.Ordering.{Tri, less, same, more, tri}
 use Rattle.table.proofs.Soundness.{sound-list}
 use Rattle.rhodf.specs.Graph.{Graph, graph_of}
@@ -29,19 +27,16 @@ use Rattle.plans.specs.declared.Once.TheVariants.{Straight}
 use Rattle.plans.specs.declared.Behind.{Behind as BehindTerms}
 use Rattle.plans.specs.Plans.{subject_of_each, Met, Obeyed}
 use Rattle.plans.proofs.Meeting.{met-lower, met-bottom}
+use Rattle.walks.specs.declared.Stopped.{Stopped}
 use Rattle.walks.specs.Rising.{Risen, Drew}
-use Rattle.walks.specs.Walks.{OfOne, Planned, Walked, Begins, Meeting, RowMet, MeetingDrawn, Answered, RaisedIn, WalkedIn, MeetingDrawnIn}
+use Rattle.walks.specs.Walks.{OfOne, Raised, Planned, Walked, Begins, Meeting, RowMet, MeetingDrawn, Answered, RaisedIn, WalkedIn, MeetingDrawnIn}
 use Rattle.walks.proofs.Rising.{drew-none, Passed, drew-so}
 use Rattle.walks.proofs.Neighbours.{row-value, row_below, none_before, all_partners}
 
--- what is answered of a row that is put in, and what follows from an answer
-answered_put : (P : Bool → Bool → Type 0) (x : Result Done Full) → P (is_full x) (has_changed x) → Answered P x
-answered_put P (Ok d) p = p
-answered_put P (Err e) p = (false, p)
-
-answered-so : (P Q : Bool → Bool → Type 0) → ((full changed : Bool) → P full changed → Q full changed) → (x : Result Done Full) → Answered P x → Answered Q x
+-- what follows from an answer
+answered-so : (P Q : Bool → Bool → Type 0) → ((full changed : Bool) → P full changed → Q full changed) → (x : Result Done Stopped) → Answered P x → Answered Q x
 answered-so P Q h (Ok d) p = h false d.changed p
-answered-so P Q h (Err e) p = (p.0, h true p.0 p.1)
+answered-so P Q h (Err e) p = h true e.changed p
 
 -- the same plan in a table that has risen
 pub planned-later : {R : Rules} {kind : ℕ} {plan : Plan} {a : ℕ} {l : Lanes} {n : ℕ} {m : Lanes} {full changed : Bool} {n₁ : ℕ}
@@ -58,9 +53,11 @@ pub walked_off : {R : Rules} {kind a : ℕ} {l : Lanes} {n : ℕ} → Planned R 
 walked_off c = drew-none c.sound (record { obeyed = tt })
 
 -- what it gives alone
-pub alone-walked : (R : Rules) (s p a : ℕ) (t u : Table) (x : Result Done Full) → RaisedIn R (row s p s a) t u x → WalkedIn R (Alone s p) a t u x
-alone-walked R s p a t u x w =
-    answered_put (λ full changed. Walked R (kind_number t.kind) (Alone s p) a (lanes_in t) t.count (lanes_in u) full changed u.count) x (drew-so w (λ _ _ q. record { obeyed = q }))
+pub alone-walked : (R : Rules) (s p o a : ℕ) (t u : Table) (x : Result Done Stopped) → RaisedIn R (row s p o a) t u x → WalkedIn R (Alone s p o) a t u x
+alone-walked R s p o a t u x w =
+    let P = λ (full changed : Bool). Raised R (kind_number t.kind) (row s p o a) (lanes_in t) t.count (lanes_in u) full changed u.count in
+    let Q = λ (full changed : Bool). Walked R (kind_number t.kind) (Alone s p o) a (lanes_in t) t.count (lanes_in u) full changed u.count in
+    answered-so P Q (λ full changed v. drew-so v (λ _ _ q. record { obeyed = q })) x w
 
 -- of a row with the object z it leads to the rows behind that
 pub behind-planned : {R : Rules} {kind : ℕ} {l : Lanes} {n z c : ℕ} (d : BehindTerms) → Meeting R kind (Behind d) z c l n
@@ -72,7 +69,7 @@ behind-planned d m = record {
   sure = λ H h. record { obeyed = λ w. m.sure H h w };
 }
 
-pub behind-drawn : (R : Rules) (z c : ℕ) (t u : Table) (d : BehindTerms) (x : Result Done Full) → WalkedIn R (Rows z d.t (Once (Straight d.s d.p))) c t u x
+pub behind-drawn : (R : Rules) (z c : ℕ) (t u : Table) (d : BehindTerms) (x : Result Done Stopped) → WalkedIn R (Rows z d.t (Once (Straight d.s d.p))) c t u x
     → MeetingDrawnIn R (Behind d) z c t u x
 behind-drawn R z c t u d x w =
     let P = λ (full changed : Bool). Walked R (kind_number t.kind) (Rows z d.t (Once (Straight d.s d.p))) c (lanes_in t) t.count (lanes_in u) full changed u.count in

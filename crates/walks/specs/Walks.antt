@@ -6,17 +6,16 @@ use Rattle.annotation.specs.Kinds.{algebra}
 use Rattle.annotation.specs.Numbered.{kind_number}
 use Rattle.table.specs.declared.lent.Table.{Table}
 use Rattle.table.specs.declared.put.Done.{Done}
-use Rattle.table.specs.declared.put.Full.{Full}
 use Rattle.table.specs.Rows.{triple, Row, Lanes, row_at, rows_of}
 use Rattle.table.specs.Sound.{Sound}
 use Rattle.table.specs.Lent.{lanes_in}
-use Rattle.table.specs.Puts.{is_full, has_changed}
 use Rattle.rhodf.specs.Graph.{Graph, graph_of}
 use Rattle.rhodf.specs.Rules.{Rules, Drawn}
 use Rattle.plans.specs.declared.Plan.{Plan}
 use Rattle.plans.specs.declared.Plan.TheVariants.{Off, Rows, Alone}
 use Rattle.plans.specs.declared.Each.{Each}
 use Rattle.plans.specs.Plans.{subject_of_each, object_of_each, LegalPlan, Met, Obeyed}
+use Rattle.walks.specs.declared.Stopped.{Stopped}
 use Rattle.walks.specs.Rising.{Above, Drew}
 
 -- a conclusion that every closed graph above the table has
@@ -41,7 +40,7 @@ Raised R kind r l n m full changed n' =
 abbrev pub OfPlan : Plan → ℕ → Type 0
 OfPlan Off x = ⊥
 OfPlan (Rows q r each) x = x ≡ subject_of_each each
-OfPlan (Alone s p) x = x ≡ s
+OfPlan (Alone s p o) x = x ≡ s
 
 -- a plan that every closed graph above the table obeys
 pub record Planned (R : Rules) (kind : ℕ) (plan : Plan) (a : ℕ) (l : Lanes) (n : ℕ) : Type 0 where
@@ -87,22 +86,22 @@ RowMet kind q r each a l n k =
 abbrev pub ConcludedIn : Rules → Row → Table → Type 0
 ConcludedIn R r t = Concluded R (kind_number t.kind) r (lanes_in t) t.count
 
-abbrev pub RaisedIn : Rules → Row → Table → Table → Result Done Full → Type 0
-RaisedIn R r t u x = Raised R (kind_number t.kind) r (lanes_in t) t.count (lanes_in u) (is_full x) (has_changed x) u.count
-
--- what is answered, of P over "full" and "changed": where a row found no room, nothing says what changed before
-abbrev pub Answered : (Bool → Bool → Type 0) → Result Done Full → Type 0
+-- what is answered, of P over "full" and "changed"
+abbrev pub Answered : (Bool → Bool → Type 0) → Result Done Stopped → Type 0
 Answered P (Ok d) = P false d.changed
-Answered P (Err e) = (changed : Bool) × P true changed
+Answered P (Err e) = P true e.changed
+
+abbrev pub RaisedIn : Rules → Row → Table → Table → Result Done Stopped → Type 0
+RaisedIn R r t u = Answered (λ full changed. Raised R (kind_number t.kind) r (lanes_in t) t.count (lanes_in u) full changed u.count)
 
 abbrev pub PlannedIn : Rules → Plan → ℕ → Table → Type 0
 PlannedIn R plan a t = Planned R (kind_number t.kind) plan a (lanes_in t) t.count
 
-abbrev pub WalkedIn : Rules → Plan → ℕ → Table → Table → Result Done Full → Type 0
+abbrev pub WalkedIn : Rules → Plan → ℕ → Table → Table → Result Done Stopped → Type 0
 WalkedIn R plan a t u = Answered (λ full changed. Walked R (kind_number t.kind) plan a (lanes_in t) t.count (lanes_in u) full changed u.count)
 
 abbrev pub MeetingIn : Rules → Each → ℕ → ℕ → Table → Type 0
 MeetingIn R each z c t = Meeting R (kind_number t.kind) each z c (lanes_in t) t.count
 
-abbrev pub MeetingDrawnIn : Rules → Each → ℕ → ℕ → Table → Table → Result Done Full → Type 0
+abbrev pub MeetingDrawnIn : Rules → Each → ℕ → ℕ → Table → Table → Result Done Stopped → Type 0
 MeetingDrawnIn R each z c t u = Answered (λ full changed. MeetingDrawn R (kind_number t.kind) each z c (lanes_in t) t.count (lanes_in u) full changed u.count)

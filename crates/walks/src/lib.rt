@@ -1,5 +1,5 @@
 // Carrying out a plan of a rule set: a conclusion, the rows that the plan meets one after another, and the rows behind each of them.
-// Nothing is refused here; where a row finds no room, the caller is told (`Full`).
+// Nothing is refused here; where a row finds no room, the caller is told, and whether the table changed before (`Stopped`).
 // The table may grow under a walk and rows move; only a walk that changed nothing shows that its plan is obeyed.
 // Each conclusion is looked for behind the one before (`hint`, `next`): they mostly come in order.
 #![tactic(auto)]
@@ -16,6 +16,20 @@ use plans::{Behind, Each, Once, Plan};
 use table::{Done, Full, Row, Rows, Table, key_of};
 use term::{NAME, sort_of};
 
+// A row found no room; whether the table changed before.
+#[derive(Clone, Copy)]
+pub struct Stopped {
+    pub changed: bool,
+}
+
+impl From<Stopped> for Full {
+    ghost from_gives = { λ _ full. full ≡ record {} };
+
+    fn from(_stopped: Stopped) -> Full {
+        Full
+    }
+}
+
 // Nothing is put in.
 fn unchanged(hint: usize) -> Done
     ensures { result ≡ record { changed = false; next = hint } }
@@ -29,7 +43,7 @@ fn unchanged(hint: usize) -> Done
 // Puts a conclusion in; one whose predicate is no name, or whose annotation is 0, is not drawn. It is laid into the walk, and all
 // walks into the round: with calls closing takes up to 1.4 times as long.
 #[inline(always)]
-fn raise(table: &mut Table, rules: u8, r: Row, hint: usize) -> Result<Done, Full>
+fn raise(table: &mut Table, rules: u8, r: Row, hint: usize) -> Result<Done, Stopped>
     requires { ConcludedIn (rules_of rules) (row r.s r.p r.o r.a) table.old }
     ensures kept { Kept table.old table.new }
     ensures raised { RaisedIn (rules_of rules) (row r.s r.p r.o r.a) table.old table.new result }
@@ -37,7 +51,10 @@ fn raise(table: &mut Table, rules: u8, r: Row, hint: usize) -> Result<Done, Full
     if sort_of(r.p) != NAME || r.a == BOTTOM {
         return Ok(unchanged(hint));
     }
-    table.put_found(r, hint)
+    match table.put_found(r, hint) {
+        Ok(done) => Ok(done),
+        Err(Full) => Err(Stopped { changed: false }),
+    }
 }
 
 // What each row that a plan meets gives.
@@ -45,7 +62,14 @@ trait Gives: Copy {
     ghost each: { Self → Each };
 
     // Draws it of a row with the object z, where the annotations of the premises so far meet in c.
-    fn draw(self, table: &mut Table, rules: u8, z: u16, c: u64, hint: usize) -> Result<Done, Full>
+    fn draw(
+        self,
+        table: &mut Table,
+        rules: u8,
+        z: u16,
+        c: u64,
+        hint: usize,
+    ) -> Result<Done, Stopped>
         requires { MeetingIn (rules_of rules) (each self) z c table.old }
         ensures kept { Kept table.old table.new }
         ensures drawn { MeetingDrawnIn (rules_of rules) (each self) z c table.old table.new result };
@@ -55,7 +79,14 @@ impl Gives for Once {
     ghost each = { Each.Once };
 
     #[inline(always)]
-    fn draw(self, table: &mut Table, rules: u8, z: u16, c: u64, hint: usize) -> Result<Done, Full> {
+    fn draw(
+        self,
+        table: &mut Table,
+        rules: u8,
+        z: u16,
+        c: u64,
+        hint: usize,
+    ) -> Result<Done, Stopped> {
         // One call of `raise`, so that it is laid into the walk.
         let r = match self {
             Once::Straight { s, p } => Row { s, p, o: z, a: c },
@@ -68,7 +99,14 @@ impl Gives for Once {
 impl Gives for Behind {
     ghost each = { Each.Behind };
 
-    fn draw(self, table: &mut Table, rules: u8, z: u16, c: u64, hint: usize) -> Result<Done, Full> {
+    fn draw(
+        self,
+        table: &mut Table,
+        rules: u8,
+        z: u16,
+        c: u64,
+        hint: usize,
+    ) -> Result<Done, Stopped> {
         let Behind { t, s, p } = self;
         walk(table, rules, z, t, Once::Straight { s, p }, c, hint)
     }
@@ -92,7 +130,7 @@ fn walk<G: Gives>(
     each: G,
     a: u64,
     hint: usize,
-) -> Result<Done, Full>
+) -> Result<Done, Stopped>
     requires { PlannedIn (rules_of rules) (Plan.Rows q r (G.each each)) a table.old }
     ensures kept { Kept table.old table.new }
     ensures walked { WalkedIn (rules_of rules) (Plan.Rows q r (G.each each)) a table.old table.new result }
@@ -102,18 +140,32 @@ fn walk<G: Gives>(
     while begins(&table.rows(), i, q, r) {
         let z = table.obj[i];
         let c = table.kind.meet(a, table.ann[i]);
-        let done = each.draw(table, rules, z, c, walked.next)?;
-        walked = Done {
-            changed: walked.changed | done.changed,
-            next: done.next,
-        };
+        match each.draw(table, rules, z, c, walked.next) {
+            Ok(done) => {
+                walked = Done {
+                    changed: walked.changed | done.changed,
+                    next: done.next,
+                };
+            }
+            Err(stopped) => {
+                return Err(Stopped {
+                    changed: walked.changed | stopped.changed,
+                });
+            }
+        }
         i += 1;
     }
     Ok(walked)
 }
 
 // Carries out a plan for a row with the annotation a.
-pub fn pursue(table: &mut Table, rules: u8, plan: Plan, a: u64, hint: usize) -> Result<Done, Full>
+pub fn pursue(
+    table: &mut Table,
+    rules: u8,
+    plan: Plan,
+    a: u64,
+    hint: usize,
+) -> Result<Done, Stopped>
     requires { PlannedIn (rules_of rules) plan a table.old }
     ensures kept { Kept table.old table.new }
     ensures walked { WalkedIn (rules_of rules) plan a table.old table.new result }
@@ -124,6 +176,6 @@ pub fn pursue(table: &mut Table, rules: u8, plan: Plan, a: u64, hint: usize) -> 
             Each::Once(each) => walk(table, rules, q, r, each, a, hint),
             Each::Behind(each) => walk(table, rules, q, r, each, a, hint),
         },
-        Plan::Alone { s, p } => raise(table, rules, Row { s, p, o: s, a }, hint),
+        Plan::Alone { s, p, o } => raise(table, rules, Row { s, p, o, a }, hint),
     }
 }

@@ -26,7 +26,7 @@ returns-in_err-done-clause-drawn c =
     let p = err_from_is_err_and c.from_residual.result c.from_residual.ensures.1 in
     let i = c.loop-rule.invariant in
     let walked = rw i.kept.same_kind at c.in_err-done.ensures.walked in
-    rw p.1 (_, risen-then i.drew.risen walked.1.risen (either_or _ _))
+    rw p.1 (_, risen-then i.drew.risen walked.risen (either_or _ _))
 
 pub loop-rule-preserved : goal.loop-rule-preserved
 loop-rule-preserved c =

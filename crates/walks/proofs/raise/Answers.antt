@@ -16,5 +16,8 @@ returns-then-sort_of-ne-NAME-clause-raised c =
 pub put_found-requires : goal.put_found-requires
 put_found-requires c = conclusion_put c.requires (eq-eqb _ _ (sym c.sort_of.ensures ∙ c.if-sort_of-ne-NAME.false)) (omega arith)
 
-pub returns-clause-raised : goal.returns-clause-raised
-returns-clause-raised c = raised_put c.requires (eq-eqb _ _ (sym c.sort_of.ensures ∙ c.if-sort_of-ne-NAME.false)) (omega arith) c.put_found.ensures.put
+pub returns-in-Ok-clause-raised : goal.returns-in-Ok-clause-raised
+returns-in-Ok-clause-raised c = raised_put c.requires (eq-eqb _ _ (sym c.sort_of.ensures ∙ c.if-sort_of-ne-NAME.false)) (omega arith) c.in-Ok.ensures.put
+
+pub returns-in-Err-clause-raised : goal.returns-in-Err-clause-raised
+returns-in-Err-clause-raised c = raised_put c.requires (eq-eqb _ _ (sym c.sort_of.ensures ∙ c.if-sort_of-ne-NAME.false)) (omega arith) c.in-Err.ensures.put

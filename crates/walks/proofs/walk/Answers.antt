@@ -1,5 +1,4 @@
 use Rattle.std.proofs.Common.{arith, refl, rules}
-use Rattle.std.proofs.lemmas.Result.{err_from_is_err_and}
 use Rattle.walks.proofs.Rising.{either_or, turn, drew-full}
 use Rattle.walks.proofs.Walking.{planned-later, met-values, next-met, row-met, walk_start, walk_end}
 use Rattle.walks.proofs.walk.Goals as goal
@@ -26,18 +25,17 @@ draw-requires g c =
     let m = next-met (planned-later c.requires i.drew.risen) here.0 here.1 here.2 (rw i.kept.same_kind at c.meet-c.ensures) in
     rw (← i.kept.same_kind) at m
 
-pub returns-in_err-done-clause-walked : goal.returns-in_err-done-clause-walked
-returns-in_err-done-clause-walked g c =
-    let p = err_from_is_err_and c.from_residual.result c.from_residual.ensures.1 in
+pub returns-in-Err-clause-walked : goal.returns-in-Err-clause-walked
+returns-in-Err-clause-walked g c =
     let i = c.loop-each.invariant in
-    let d = rw i.kept.same_kind at c.in_err-done.ensures.drawn in
+    let d = rw i.kept.same_kind at c.in-Err.ensures.drawn in
     let b = rw i.kept.same_kind at c.meet-c.ensures in
-    rw p.1 (_, drew-full (turn i.drew (row-met _ _ _ _ c.loop-each.i b d.1) (either_or _ _)) refl)
+    drew-full (turn i.drew (row-met _ _ _ _ c.loop-each.i b d) (either_or _ _)) refl
 
 pub loop-each-preserved : goal.loop-each-preserved
 loop-each-preserved g c =
     let i = c.loop-each.invariant in
-    let d = rw i.kept.same_kind at c.in_ok-done.ensures.drawn in
+    let d = rw i.kept.same_kind at c.in-Ok.ensures.drawn in
     let b = rw i.kept.same_kind at c.meet-c.ensures in
     record { kept = search rules; drew = turn i.drew (row-met _ _ _ _ c.loop-each.i b d) (either_or _ _) }
 
