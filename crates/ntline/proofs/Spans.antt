@@ -9,16 +9,17 @@ use lib.Seq.{slice, slice_empty, length-slice}
 use lib.Dec.{eqb}
 use borrow.Author.Tests.{eq-eqb, ne_eqb, eqb-true, eqb-false}
 use Rattle.utf8.specs.declared.Character.{Character}
-use Rattle.std.specs.Prelude.{Option, Some, None}
+use Rattle.std.specs.Prelude.{Option, Some, None, Result}
 use Rattle.utf8.specs.Octets.{character_in}
 use Rattle.utf8.specs.Texts.{chars_of, seen}
 use Rattle.utf8.proofs.Texts.{chars-nil, chars-whole, chars-bad}
 use Rattle.ntline.specs.declared.lines.Span.{Span}
+use Rattle.ntline.specs.declared.lines.Missing.{Missing}
 use Rattle.ntline.specs.declared.lines.Sort.TheVariants.{Name, Blank, Literal}
 use Rattle.ntline.specs.declared.lexing.Kind.{Kind}
-use Rattle.ntline.specs.Kinds.{span, number_of}
+use Rattle.ntline.specs.Kinds.{span, missing, number_of}
 use Rattle.ntline.specs.Lexing.{token_of}
-use Rattle.ntline.specs.Lines.{is_nil, spaced, is_over, Source, source, typed_of, literal_of, source_of, is_dotted, SpanOf, SpanFound}
+use Rattle.ntline.specs.Lines.{is_nil, spaced, is_over, Source, source, typed_of, literal_of, source_of, is_dotted, SpanOf, MissingOf, SpanFound}
 use Rattle.ntline.specs.Inner.{TokenAt, SpacedAt}
 
 -- a terminal by its number
@@ -165,11 +166,21 @@ module _ (b : List ℕ) where
           tail_is = rest-there ∙ ap (λ (x : Source). x.tail) (sym is);
         }
 
-    pub term-none : (kind ≡ 7 → ⊥) → (kind ≡ 5 → ⊥) → (kind ≡ 8 → ⊥) → (source_of (seen b at end)).sort ≡ 3
-    term-none x y z = ap (λ (q : Source). q.sort) (source-none (seen b at end) (not_there 7 x) (not_there 5 y) (not_there 8 z))
+    pub term-none : (kind ≡ 7 → ⊥) → (kind ≡ 5 → ⊥) → (kind ≡ 8 → ⊥) → MissingOf b end (missing from from from) (source_of (seen b at end))
+    term-none x y z =
+        let is = source-none (seen b at end) (not_there 7 x) (not_there 5 y) (not_there 8 z) in
+        record {
+          no_sort = ap (λ (q : Source). q.sort) is;
+          rising = omega arith;
+          rising_tail = omega arith;
+          within = s.within;
+          from_is = s.rest_is ∙ ap (λ (q : Source). q.from) (sym is);
+          to_is = s.rest_is ∙ ap (λ (q : Source). q.to) (sym is);
+          tail_is = s.rest_is ∙ ap (λ (q : Source). q.tail) (sym is);
+        }
 
     -- a string, and what its literal is
-    pub term-string : (r : Option Span) → kind ≡ 8 → SpanFound b end r (literal_of (seen b from end) (seen b to end)) → SpanFound b end r (source_of (seen b at end))
+    pub term-string : (r : Result Span Missing) → kind ≡ 8 → SpanFound b end r (literal_of (seen b from end) (seen b to end)) → SpanFound b end r (source_of (seen b at end))
     term-string r e x =
         rw (source-string (seen b at end) (there 8 e), ← s.rest_is, ← t.rest_is) x
 
@@ -188,7 +199,7 @@ module _ (b : List ℕ) where
           tail_is = rest-there to end from kind behind s t ∙ ap (λ (x : Source). x.tail) (sym is);
         }
 
-    pub literal-typed : (r : Option Span) → kind ≡ 3 → SpanFound b end r (typed_of (seen b first end) (seen b to end) (seen b behind end)) →
+    pub literal-typed : (r : Result Span Missing) → kind ≡ 3 → SpanFound b end r (typed_of (seen b first end) (seen b to end) (seen b behind end)) →
         SpanFound b end r (literal_of (seen b first end) (seen b to end))
     literal-typed r e x =
         rw (literal-hats (seen b first end) (seen b to end) (there to end from kind behind s t 3 e), ← rest-there to end from kind behind s t) x
@@ -221,9 +232,18 @@ module _ (b : List ℕ) where
           tail_is = rest-there at end from kind behind s t ∙ ap (λ (x : Source). x.tail) (sym is);
         }
 
-    pub typed_missing : (kind ≡ 7 → ⊥) → (typed_of (seen b first end) (seen b to end) (seen b at end)).sort ≡ 3
+    pub typed_missing : (kind ≡ 7 → ⊥) → MissingOf b end (missing first to behind) (typed_of (seen b first end) (seen b to end) (seen b at end))
     typed_missing e =
-        ap (λ (x : Source). x.sort) (typed_none (seen b first end) (seen b to end) (seen b at end) (not_there at end from kind behind s t 7 e))
+        let is = typed_none (seen b first end) (seen b to end) (seen b at end) (not_there at end from kind behind s t 7 e) in
+        record {
+          no_sort = ap (λ (x : Source). x.sort) is;
+          rising = low;
+          rising_tail = omega (arith, s.later, t.later);
+          within = t.within;
+          from_is = ap (λ (x : Source). x.from) (sym is);
+          to_is = ap (λ (x : Source). x.to) (sym is);
+          tail_is = rest-there at end from kind behind s t ∙ ap (λ (x : Source). x.tail) (sym is);
+        }
 
   pub dotted_over : (at end from kind to : ℕ) → SpacedAt b at end from → TokenAt b from end kind to → kind ≡ 2 → (r : Bool) → r ≡ is_over (seen b to end) →
       r ≡ is_dotted (seen b at end)

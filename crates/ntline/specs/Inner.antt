@@ -1,9 +1,10 @@
 -- What the parts of reading a line promise each other: positions of the bytes for what is left of the line.
-use Rattle.std.specs.Prelude.{◌≡◌, Option, List, ℕ, ◌≤◌}
+use Rattle.std.specs.Prelude.{◌≡◌, Option, Result, List, ℕ, ◌≤◌}
 use Rattle.utf8.specs.Texts.{seen}
 use Rattle.ntline.specs.declared.lexing.State.{State}
 use Rattle.ntline.specs.declared.lexing.Terminal.{Terminal}
 use Rattle.ntline.specs.declared.lines.Span.{Span}
+use Rattle.ntline.specs.declared.lines.Missing.{Missing}
 use Rattle.ntline.specs.declared.lines.Line.{Line}
 use Rattle.ntline.specs.Lexing.{token_is, munched, token_of}
 use Rattle.ntline.specs.Kinds.{found_kind, found_to}
@@ -38,13 +39,13 @@ pub record SpacedAt (b : List ℕ) (at end to : ℕ) : Type 0 where
   pub rest_is : seen b to end ≡ spaced (seen b at end)
 
 -- a term whose first terminal lies from one position to another
-abbrev pub TypedAt : List ℕ → ℕ → ℕ → ℕ → ℕ → Option Span → Type 0
+abbrev pub TypedAt : List ℕ → ℕ → ℕ → ℕ → ℕ → Result Span Missing → Type 0
 TypedAt b from to at end r = SpanFound b end r (typed_of (seen b from end) (seen b to end) (seen b at end))
 
-abbrev pub LiteralAt : List ℕ → ℕ → ℕ → ℕ → Option Span → Type 0
+abbrev pub LiteralAt : List ℕ → ℕ → ℕ → ℕ → Result Span Missing → Type 0
 LiteralAt b from to end r = SpanFound b end r (literal_of (seen b from end) (seen b to end))
 
-abbrev pub TermAt : List ℕ → ℕ → ℕ → Option Span → Type 0
+abbrev pub TermAt : List ℕ → ℕ → ℕ → Result Span Missing → Type 0
 TermAt b at end r = SpanFound b end r (source_of (seen b at end))
 
 -- for whatever sources the spans before stand

@@ -6,6 +6,7 @@ use Rattle.ntline.specs.declared.lexing.Terminal.{Terminal}
 use Rattle.ntline.specs.declared.lines.Sort.{Sort}
 use Rattle.ntline.specs.declared.lines.Sort.TheVariants.{Name, Blank, Literal}
 use Rattle.ntline.specs.declared.lines.Span.{Span}
+use Rattle.ntline.specs.declared.lines.Missing.{Missing}
 use Rattle.ntline.specs.Lexing.{none, a_space, a_dot, a_hats, a_remark, a_label, a_tag, an_iri, a_string}
 
 abbrev pub number_of : Kind → ℕ
@@ -38,3 +39,6 @@ sort_number Literal = 2
 
 abbrev pub span : Sort → ℕ → ℕ → ℕ → Span
 span sort from to tail = record { sort = sort; from = from; to = to; tail = tail }
+
+abbrev pub missing : ℕ → ℕ → ℕ → Missing
+missing from to tail = record { from = from; to = to; tail = tail }

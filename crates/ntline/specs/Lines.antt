@@ -1,7 +1,8 @@
 -- A line taken apart by its terminals, and what it says.
-use Rattle.std.specs.Prelude.{◌≡◌, Option, Some, None, Bool, true, false, cond, ◌&&◌, ◌||◌, List, [], ◌∷◌, ℕ, ◌-◌, ◌≤◌, length, take, drop, eqb, leb}
+use Rattle.std.specs.Prelude.{◌≡◌, Result, Ok, Err, Bool, true, false, cond, ◌&&◌, ◌||◌, List, [], ◌∷◌, ℕ, ◌-◌, ◌≤◌, length, take, drop, eqb, leb}
 use Rattle.utf8.specs.Texts.{seen}
 use Rattle.ntline.specs.declared.lines.Span.{Span}
+use Rattle.ntline.specs.declared.lines.Missing.{Missing}
 use Rattle.ntline.specs.declared.lines.Line.{Line}
 use Rattle.ntline.specs.declared.lines.Line.TheVariants.{Bad, Empty, Triple}
 use Rattle.ntline.specs.Grammar.{Said, Sort, Term}
@@ -114,10 +115,20 @@ pub record SpanOf (b : List ℕ) (end : ℕ) (span : Span) (s : Source) : Type 0
   pub to_is : seen b span.to end ≡ s.to
   pub tail_is : seen b span.tail end ≡ s.tail
 
--- a term's span, or none where a source is of no sort
-abbrev pub SpanFound : List ℕ → ℕ → Option Span → Source → Type 0
-SpanFound b end (Some r) s = SpanOf b end r s
-SpanFound b end None s = s.sort ≡ 3
+-- places of bytes and a source of no sort, which is no term, that they stand for
+pub record MissingOf (b : List ℕ) (end : ℕ) (places : Missing) (s : Source) : Type 0 where
+  pub no_sort : s.sort ≡ 3
+  pub rising : places.from ≤ places.to
+  pub rising_tail : places.to ≤ places.tail
+  pub within : places.tail ≤ end
+  pub from_is : seen b places.from end ≡ s.from
+  pub to_is : seen b places.to end ≡ s.to
+  pub tail_is : seen b places.tail end ≡ s.tail
+
+-- a term's span, or the places of a source of no sort
+abbrev pub SpanFound : List ℕ → ℕ → Result Span Missing → Source → Type 0
+SpanFound b end (Ok r) s = SpanOf b end r s
+SpanFound b end (Err r) s = MissingOf b end r s
 
 -- a line as the code gives it, and as it is
 abbrev pub LineOf : List ℕ → ℕ → Line → Parsed → Type 0

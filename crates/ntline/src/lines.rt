@@ -2,7 +2,7 @@
 ghost use Rattle.std.specs.Prelude.{◌≡◌, ◌≤◌, length};
 ghost use Rattle.utf8.specs.Texts.{seen};
 ghost use Rattle.ntline.specs.declared.lines.Sort.TheVariants.{Literal};
-ghost use Rattle.ntline.specs.Kinds.{span};
+ghost use Rattle.ntline.specs.Kinds.{span, missing};
 ghost use Rattle.ntline.specs.Lines.{LineOf, line_of, is_over, is_dotted};
 ghost use Rattle.ntline.specs.Inner.{SpacedAt, TermAt, TypedAt, LiteralAt, ObjectAt, PredicateAt, SubjectAt};
 
@@ -22,6 +22,14 @@ pub enum Sort {
 #[derive(Clone, Copy)]
 pub struct Span {
     pub sort: Sort,
+    pub from: usize,
+    pub to: usize,
+    pub tail: usize,
+}
+
+// Where there is no term: where it would begin, the end of its string, and how far it was read; all one place where there is no string.
+#[derive(Clone, Copy)]
+pub struct Missing {
     pub from: usize,
     pub to: usize,
     pub tail: usize,
@@ -56,6 +64,16 @@ fn over(b: &[u8], at: usize, end: usize) -> bool
     from == end || (b[from] == b'#' && is_text(b, from + 1, end))
 }
 
+fn no_term(at: usize) -> Missing
+    ensures { result ≡ missing at at at }
+{
+    Missing {
+        from: at,
+        to: at,
+        tail: at,
+    }
+}
+
 fn short_term(sort: Sort, from: usize, to: usize) -> Span
     ensures { result ≡ span sort from to to }
 {
@@ -79,47 +97,59 @@ fn literal_term(from: usize, to: usize, tail: usize) -> Span
 }
 
 // Behind '^^': the datatype's IRI.
-fn typed(b: &[u8], from: usize, to: usize, at: usize, end: usize) -> Option<Span>
+fn typed(b: &[u8], from: usize, to: usize, at: usize, end: usize) -> Result<Span, Missing>
     requires { (from ≤ to) × (to ≤ at) × (at ≤ end) × (end ≤ length b.now) }
     ensures { TypedAt b.now from to at end result }
 {
     let behind = spaced(b, at, end);
-    let t = token(b, behind, end)?;
+    let Some(t) = token(b, behind, end) else {
+        return Err(Missing {
+            from,
+            to,
+            tail: behind,
+        });
+    };
     match t.kind {
-        Kind::Iri => Some(literal_term(from, to, t.to)),
-        _ => None,
+        Kind::Iri => Ok(literal_term(from, to, t.to)),
+        _ => Err(Missing {
+            from,
+            to,
+            tail: t.to,
+        }),
     }
 }
 
 // Behind a string: a language tag, '^^' and an IRI, or nothing.
-fn literal(b: &[u8], from: usize, to: usize, end: usize) -> Option<Span>
+fn literal(b: &[u8], from: usize, to: usize, end: usize) -> Result<Span, Missing>
     requires { (from ≤ to) × (to ≤ end) × (end ≤ length b.now) }
     ensures { LiteralAt b.now from to end result }
 {
     let behind = spaced(b, to, end);
-    let plain = Some(literal_term(from, to, to));
+    let plain = Ok(literal_term(from, to, to));
     let Some(t) = token(b, behind, end) else {
         return plain;
     };
     match t.kind {
-        Kind::Tag => Some(literal_term(from, to, t.to)),
+        Kind::Tag => Ok(literal_term(from, to, t.to)),
         Kind::Hats => typed(b, from, to, t.to, end),
         _ => plain,
     }
 }
 
 // The term at a position, behind white space.
-pub fn term(b: &[u8], at: usize, end: usize) -> Option<Span>
+pub fn term(b: &[u8], at: usize, end: usize) -> Result<Span, Missing>
     requires { (at ≤ end) × (end ≤ length b.now) }
     ensures { TermAt b.now at end result }
 {
     let from = spaced(b, at, end);
-    let t = token(b, from, end)?;
+    let Some(t) = token(b, from, end) else {
+        return Err(no_term(from));
+    };
     match t.kind {
-        Kind::Iri => Some(short_term(Sort::Name, from, t.to)),
-        Kind::Label => Some(short_term(Sort::Blank, from, t.to)),
+        Kind::Iri => Ok(short_term(Sort::Name, from, t.to)),
+        Kind::Label => Ok(short_term(Sort::Blank, from, t.to)),
         Kind::String => literal(b, from, t.to, end),
-        _ => None,
+        _ => Err(no_term(from)),
     }
 }
 
@@ -143,7 +173,7 @@ fn object(b: &[u8], s: Span, p: Span, end: usize) -> Line
     ensures { ObjectAt b.now s p end result }
 {
     match term(b, p.tail, end) {
-        Some(o) if dotted(b, o.tail, end) => Line::Triple(s, p, o),
+        Ok(o) if dotted(b, o.tail, end) => Line::Triple(s, p, o),
         _ => Line::Bad,
     }
 }
@@ -153,7 +183,7 @@ fn predicate(b: &[u8], s: Span, end: usize) -> Line
     ensures { PredicateAt b.now s end result }
 {
     match term(b, s.tail, end) {
-        Some(p) if p.sort == Sort::Name => object(b, s, p, end),
+        Ok(p) if p.sort == Sort::Name => object(b, s, p, end),
         _ => Line::Bad,
     }
 }
@@ -163,7 +193,7 @@ fn subject(b: &[u8], at: usize, end: usize) -> Line
     ensures { SubjectAt b.now at end result }
 {
     match term(b, at, end) {
-        Some(s) if s.sort != Sort::Literal => predicate(b, s, end),
+        Ok(s) if s.sort != Sort::Literal => predicate(b, s, end),
         _ => Line::Bad,
     }
 }

@@ -75,7 +75,7 @@ fn legal_literal(text: &[u8], from: usize, to: usize) -> bool
     requires { (from ≤ to) × (to ≤ length text.now) }
     ensures { result ≡ is_legal_text 2 (slice from to text.now) }
 {
-    let Some(t) = term_at(text, from, to) else {
+    let Ok(t) = term_at(text, from, to) else {
         return false;
     };
     if t.sort != Sort::Literal || t.tail != to {

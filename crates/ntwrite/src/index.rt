@@ -26,6 +26,15 @@ pub fn fill(slots: &mut [u16], terms: &[u16], names: usize)
     }
 }
 
+// The first entry with a number. It asks for no more of the list than its numbers, in slots filled from them.
+pub fn entry_by(terms: &[u16], names: usize, slots: &[u16], n: u16) -> Option<usize>
+    requires { (names ≤ length terms.now) × Indexed slots.now terms.now names }
+    ensures { FoundWith terms.now names n result }
+{
+    let from = usize::from(slots[slot_of(n)]);
+    entry_of(terms, names, from, n)
+}
+
 // A names list to write from: its lanes, how many entries it has, and in which slot the entries of a number begin.
 #[derive(Clone, Copy)]
 pub struct Names<'a> {
@@ -62,7 +71,6 @@ impl<'a> Names<'a> {
     pub fn entry_of(self, n: u16) -> Option<usize>
         ensures { FoundWith self.entry.terms.now self.entry.count n result }
     {
-        let from = usize::from(self.slots[slot_of(n)]);
-        entry_of(self.terms, self.count, from, n)
+        entry_by(self.terms, self.count, self.slots, n)
     }
 }

@@ -30,14 +30,13 @@ impl<'a> Names<'a> {
         }
     }
 
-    // The text of a number.
-    fn text_of(self, n: u16) -> &'a [u8]
-        ensures { (result.now ≡ text_of (entries_in self.entry) n) × (length result.now ≤ 32768) }
+    fn text_size(self, n: u16) -> usize
+        ensures { (result ≡ length (text_of (entries_in self.entry) n)) × (result ≤ 32768) }
     {
         if n < five::COUNT {
-            five::text_of(n)
+            five::size_of(n)
         } else {
-            self.listed_text(n)
+            self.listed_text(n).len()
         }
     }
 
@@ -45,7 +44,7 @@ impl<'a> Names<'a> {
     pub fn term_size(self, n: u16) -> usize
         ensures { (result ≡ length (term_bytes (entries_in self.entry) n)) × (result ≤ 32770) }
     {
-        let size = self.text_of(n).len();
+        let size = self.text_size(n);
         if term::sort_of(n) < term::LITERAL {
             size + 2
         } else {
@@ -65,9 +64,14 @@ impl<'a> Names<'a> {
         requires { at + length (text_of (entries_in self) n) ≤ length out.old }
         ensures { LaidFrom (text_of (entries_in self.entry) n) out.old out.new at result }
     {
-        let text = self.text_of(n);
-        names::texts::put(out, at, text, text.len());
-        at + text.len()
+        if n < five::COUNT {
+            five::put_five(out, at, n);
+            at + five::size_of(n)
+        } else {
+            let text = self.listed_text(n);
+            names::texts::put(out, at, text, text.len());
+            at + text.len()
+        }
     }
 
     // A term laid into `out` from `at` on; where it ends.
