@@ -7,12 +7,14 @@ ghost use Rattle.names.specs.Finding.{SameIn};
 // As many bytes as are compared together.
 const EIGHT: usize = 8;
 
-// The first `size` bytes of a word, laid into `out` from `at` on.
+// The first `size` bytes of a word, laid into `out` from `at` on. A loop: `copy_from_slice` would have the archive for C want `memmove`.
 pub fn put(out: &mut [u8], at: usize, word: &[u8], size: usize)
     requires { (at + size ≤ length out.old) × (size ≤ length word.now) }
     ensures { out.new ≡ paste out.old at word.now size }
 {
-    out[at..at + size].copy_from_slice(&word[..size]);
+    for k in 0..size {
+        out[at + k] = word[k];
+    }
 }
 
 // Whether the eight bytes from `at` on are the same. The compiler looks at them together, so none is the first.
