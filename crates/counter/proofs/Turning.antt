@@ -47,14 +47,18 @@ pub fronted_none : (P : List ℕ → Type 0) (out : List ℕ) → P [] → Front
 fronted_none P out p = laid-front P out out [] 0 (omega arith) p (laid_none out 0)
 
 -- no bytes stand next: they have ended, or are cut
-not-whole : (s : List ℕ) → (next s ≡ ended) ⊎ (next s ≡ cut) → (q rest : List ℕ) → next s ≡ whole q rest → ⊥
-not-whole s (inl h) q rest e = ended-not_whole h e
-not-whole s (inr h) q rest e = cut-not_whole h e
+none-whole : (s : List ℕ) → (next s ≡ ended) ⊎ (next s ≡ cut) → (q rest : List ℕ) → next s ≡ whole q rest → ⊥
+none-whole s (inl h) q rest e = ended-not_whole h e
+none-whole s (inr h) q rest e = cut-not_whole h e
 
 pub came_none : (s : List ℕ) (p : Part) → Came s p → ((q : Bor (List ℕ)) → p ≡ Whole q → ⊥) → (next s ≡ ended) ⊎ (next s ≡ cut)
 came_none s Ended c n = inl c
 came_none s Cut c n = inr c
 came_none s (Whole q) c n = absurd (n q refl)
+
+-- nothing whole stands next
+pub not-whole : (s : List ℕ) (p : Part) → Came s p → ((q : Bor (List ℕ)) → p ≡ Whole q → ⊥) → (q rest : List ℕ) → next s ≡ whole q rest → ⊥
+not-whole s p c n = none-whole s (came_none s p c n)
 
 -- ---- the book
 
@@ -65,8 +69,8 @@ module _ (s : List ℕ) (out : List ℕ) (room : asked_room ≤ length out) (out
       (record {
         no_book = λ e. (refl, refl);
         cut_book = λ e. (refl, refl);
-        unread = λ b rest e. absurd (not-whole s c b rest e);
-        opened = λ b rest e. absurd (not-whole s c b rest e);
+        unread = λ b rest e. absurd (none-whole s c b rest e);
+        opened = λ b rest e. absurd (none-whole s c b rest e);
         ready = λ e. absurd (true-not_false e);
         rules_known = λ e. absurd (true-not_false e);
       })

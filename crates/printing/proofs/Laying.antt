@@ -64,7 +64,7 @@ module _ (word : List ℕ) (start n : ℕ) (small : n < 18446744073709551616) (s
   from_start : drop start word ≡ decimal n
   from_start = t ∙ append-nil (Fmt-decimal n) ∙ decimal-is n small
 
-  decimal-size : 20 - start ≡ length (decimal n)
+  pub decimal-size : 20 - start ≡ length (decimal n)
   decimal-size = let e = ap length (decimal-is n small) in omega (arith, s, e)
 
   pub same_digits : digits ≡ decimal n
