@@ -6,7 +6,8 @@
 // Nothing is refused here; where a row finds no room, the caller is told (`Full`).
 #![tactic(auto)]
 
-ghost use Rattle.std.specs.Prelude.{◌≡◌, ◌+◌, ◌≤◌, ◌<◌, length};
+ghost use Rattle.std.specs.Prelude.{◌≡◌, ◌+◌, ◌≤◌, ◌<◌, length, true};
+ghost use Rattle.termset.specs.Termset.{holds};
 ghost use Rattle.annotation.specs.Numbered.{kind_number};
 ghost use Rattle.table.specs.Lent.{lanes_in, lanes_seen, Kept};
 ghost use Rattle.table.specs.Places.{RowsWithin};
@@ -343,7 +344,9 @@ fn choose(rows: &Rows, near: usize, rose: &TermSet, seen: &TermSet) -> Option<us
 }
 
 // Notes a term that is looked at; where it is one that was, all begins anew.
-fn note(seen: &mut TermSet, one: u16) {
+fn note(seen: &mut TermSet, one: u16)
+    ensures { holds seen.new one ≡ true }
+{
     if seen.contains(one) {
         seen.clear();
     }
