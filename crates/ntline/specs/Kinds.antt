@@ -4,10 +4,10 @@ use Rattle.ntline.specs.declared.lexing.Kind.{Kind}
 use Rattle.ntline.specs.declared.lexing.Kind.TheVariants.{Space, Dot, Hats, Remark, Label, Tag, Iri, String}
 use Rattle.ntline.specs.declared.lexing.Terminal.{Terminal}
 use Rattle.ntline.specs.declared.lines.Sort.{Sort}
-use Rattle.ntline.specs.declared.lines.Sort.TheVariants.{Name, Blank, Literal}
 use Rattle.ntline.specs.declared.lines.Span.{Span}
 use Rattle.ntline.specs.declared.lines.Missing.{Missing}
 use Rattle.ntline.specs.Lexing.{none, a_space, a_dot, a_hats, a_remark, a_label, a_tag, an_iri, a_string}
+pub use Rattle.ntline.specs.Lines.{sort_number}
 
 abbrev pub number_of : Kind → ℕ
 number_of Space = a_space
@@ -31,11 +31,6 @@ found_kind None = none
 abbrev pub found_to : ℕ → Option Terminal → ℕ
 found_to at (Some t) = t.to
 found_to at None = at
-
-abbrev pub sort_number : Sort → ℕ
-sort_number Name = 0
-sort_number Blank = 1
-sort_number Literal = 2
 
 abbrev pub span : Sort → ℕ → ℕ → ℕ → Span
 span sort from to tail = record { sort = sort; from = from; to = to; tail = tail }

@@ -1,13 +1,14 @@
 -- A line taken apart by its terminals, and what it says.
 use Rattle.std.specs.Prelude.{◌≡◌, Result, Ok, Err, Bool, true, false, cond, ◌&&◌, ◌||◌, List, [], ◌∷◌, ℕ, ◌-◌, ◌≤◌, length, take, drop, eqb, leb}
 use Rattle.utf8.specs.Texts.{seen}
+use Rattle.ntline.specs.declared.lines.Sort.{Sort as SpanSort}
+use Rattle.ntline.specs.declared.lines.Sort.TheVariants.{Name, Blank, Literal}
 use Rattle.ntline.specs.declared.lines.Span.{Span}
 use Rattle.ntline.specs.declared.lines.Missing.{Missing}
 use Rattle.ntline.specs.declared.lines.Line.{Line}
 use Rattle.ntline.specs.declared.lines.Line.TheVariants.{Bad, Empty, Triple}
 use Rattle.ntline.specs.Grammar.{Said, Sort, Term}
 use Rattle.ntline.specs.Escapes.{resolved}
-use Rattle.ntline.specs.Kinds.{sort_number}
 use Rattle.ntline.specs.Lexing.{token_of, a_space, a_dot, a_hats, a_remark, a_label, a_tag, an_iri, a_string}
 
 abbrev pub is_nil : List ℕ → Bool
@@ -104,6 +105,12 @@ unfoldable pub said_by : Parsed → Heard
 said_by bad = wrong
 said_by empty = heard Said.nothing
 said_by (parsed s p o) = heard (Said.says (meant_by s) (meant_by p) (meant_by o))
+
+-- a span's sort, by its number
+abbrev pub sort_number : SpanSort → ℕ
+sort_number Name = 0
+sort_number Blank = 1
+sort_number Literal = 2
 
 -- a span of bytes and the source that it stands for
 pub record SpanOf (b : List ℕ) (end : ℕ) (span : Span) (s : Source) : Type 0 where
