@@ -5,7 +5,7 @@ ghost use Rattle.book.specs.Inner.{Fresh, FieldsRead};
 
 use crate::content::content_at;
 use field::Reader;
-use table::{Full, Table};
+use table::{Full, Row, Table};
 use term::{Refusal, Refused};
 
 // Every field from `start` on, in order, into a table that has no rows yet, until one is refused.
@@ -18,7 +18,9 @@ pub fn read_fields(table: &mut Table, book: &[u8], start: usize) -> Result<(), R
     let mut reader = Reader::stand(book, start);
     while reader.at < reader.src.len() {
         let field = content_at(table.kind, reader.src, reader.at, reader.field())?;
-        match table.put_row(field.row) {
+        // Term by term: the row as it lies in what was answered is copied in pieces that a load of a term has to wait for.
+        let Row { s, p, o, a } = field.row;
+        match table.put_row(Row { s, p, o, a }) {
             Ok(_) => {}
             Err(Full) => return Err(Refusal::NoRoom.at(reader.at)),
         }
