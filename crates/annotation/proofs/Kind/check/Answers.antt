@@ -1,21 +1,37 @@
--- Bottom is out of every kind; past it kind 1 takes every number, 5 those that keep larger combinations, 3 and 4 those up to 1000.
-use Rattle.std.proofs.Common.{◌≡◌, ◌⊎◌, inl, inr, refl, sym, ◌∙◌, arith}
+-- Bottom is out of every kind, and so is what is past the top; up to it kinds 1, 3 and 4 take every number, and 5 those that keep larger
+-- combinations.
+use Rattle.std.proofs.Common.{◌≡◌, ◌≤◌, ◌<◌, ℕ, refl, sym, ◌∙◌, arith}
 use borrow.Author.Tests.{ne_eqb, lt-leb, le-leb}
 use Rattle.term.specs.Refusal.{first}
 use Rattle.annotation.proofs.Legal.{bottom-out_of_range}
 use Rattle.annotation.specs.declared.Kind.{Kind}
 use Rattle.annotation.specs.declared.Kind.TheVariants.{Years, Degree, Strict, Sheets}
+use Rattle.annotation.specs.Kinds.{algebra, annotation_checks}
 use Rattle.annotation.specs.Numbered.{kind_number}
 use Rattle.annotation.proofs.Kind.check.Goals as goal
+
+-- a 64-bit number that is not bottom
+module _ (a : ℕ) (fits : a ≤ 18446744073709551615) (some : a ≡ 0 → ⊥) where
+  abbrev Says : ℕ → Kind → Type 0
+  Says n k = n ≡ (first (annotation_checks (kind_number k) a 0)).number
+
+  past : (k : Kind) → (algebra (kind_number k)).top < a → Says 10 k
+  unfolding first algebra
+  past Years h = absurd (omega (arith, h, fits))
+  past Degree h = rw (le-leb 1 a (omega (arith, some)), lt-leb a 1000 h) refl
+  past Strict h = rw (le-leb 1 a (omega (arith, some)), lt-leb a 1000 h) refl
+  past Sheets h = absurd (omega (arith, h, fits))
+
+  within : (k : Kind) → (k ≡ Sheets → ⊥) → a ≤ (algebra (kind_number k)).top → Says 0 k
+  unfolding first algebra
+  within Years s h = rw (ne_eqb a 0 some, le-leb a 18446744073709551615 fits) refl
+  within Degree s h = rw (le-leb 1 a (omega (arith, some)), le-leb a 1000 h) refl
+  within Strict s h = rw (le-leb 1 a (omega (arith, some)), le-leb a 1000 h) refl
+  within Sheets s h = absurd (s refl)
 
 pub returns-then-a-eq-BOTTOM : goal.returns-then-a-eq-BOTTOM
 unfolding first
 returns-then-a-eq-BOTTOM c = rw (c.if-a-eq-BOTTOM.true, bottom-out_of_range (kind_number c.args.self))
-
-pub returns-in-Years : goal.returns-in-Years
-unfolding first
-returns-in-Years c =
-    rw (c.in-Years.is, ne_eqb _ 0 c.if-a-eq-BOTTOM.false, le-leb c.args.a 18446744073709551615 (omega arith))
 
 pub returns-then-keeps_larger : goal.returns-then-keeps_larger
 unfolding first
@@ -27,23 +43,8 @@ unfolding first
 returns-else-keeps_larger c =
     rw (c.in-Sheets.is, ne_eqb _ 0 c.if-a-eq-BOTTOM.false, le-leb c.args.a 18446744073709551615 (omega arith), sym c.keeps_larger.ensures ∙ c.if-keeps_larger.false)
 
--- a kind that is neither years nor sheets is one of the two of degrees
-of_degrees : (k : Kind) → (k ≡ Years → ⊥) → (k ≡ Sheets → ⊥) → (kind_number k ≡ 3) ⊎ (kind_number k ≡ 4)
-of_degrees Years y s = absurd (y refl)
-of_degrees Degree y s = inl refl
-of_degrees Strict y s = inr refl
-of_degrees Sheets y s = absurd (s refl)
+pub returns-then-top-a : goal.returns-then-top-a
+returns-then-top-a c = past c.args.a (omega arith) c.if-a-eq-BOTTOM.false c.args.self (rw (← c.top.ensures) c.if-top-a.true)
 
-pub returns-then-a-gt-FULL_DEGREE : goal.returns-then-a-gt-FULL_DEGREE
-unfolding first
-returns-then-a-gt-FULL_DEGREE c =
-    let some = le-leb 1 c.args.a (omega arith) in
-    let past = lt-leb c.args.a 1000 c.if-a-gt-FULL_DEGREE.true in
-    elim (of_degrees c.args.self c.in_default.not-Years c.in_default.not-Sheets) [ inl e ↦ rw (e, some, past) | inr e ↦ rw (e, some, past) ]
-
-pub returns-else-a-gt-FULL_DEGREE : goal.returns-else-a-gt-FULL_DEGREE
-unfolding first
-returns-else-a-gt-FULL_DEGREE c =
-    let some = le-leb 1 c.args.a (omega arith) in
-    let within = le-leb c.args.a 1000 (omega arith) in
-    elim (of_degrees c.args.self c.in_default.not-Years c.in_default.not-Sheets) [ inl e ↦ rw (e, some, within) | inr e ↦ rw (e, some, within) ]
+pub returns-in_default : goal.returns-in_default
+returns-in_default c = within c.args.a (omega arith) c.if-a-eq-BOTTOM.false c.args.self c.in_default.not-Sheets (rw (← c.top.ensures) c.if-top-a.false)
