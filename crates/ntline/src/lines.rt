@@ -137,7 +137,6 @@ fn literal(b: &[u8], from: usize, to: usize, end: usize) -> Result<Span, Missing
 }
 
 // The term at a position, behind white space.
-#[inline(always)]
 pub fn term(b: &[u8], at: usize, end: usize) -> Result<Span, Missing>
     requires { (at ≤ end) × (end ≤ length b.now) }
     ensures { TermAt b.now at end result }

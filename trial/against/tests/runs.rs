@@ -52,6 +52,27 @@ fn ran(running: &Running) -> (Ran, Vec<u16>, Vec<u64>) {
     (ran, terms, anns)
 }
 
+/// A run goes as deep as there are steps: 47 SEEKs and a GIVE on a thread that has the stack that the header names.
+#[test]
+fn the_deepest_run_keeps_within_its_stack() {
+    let lamp = Pattern {
+        subj: Slot::constant(10),
+        pred: Slot::constant(2),
+        obj: Slot::constant(11),
+        ann: AnnSlot::variable(0),
+    };
+    let mut steps = vec![Step::seek(lamp); 47];
+    steps.push(Step::give());
+    let running = p1_closed(steps, 1_000);
+    let deep = move || {
+        let (mut terms, mut anns) = (running.terms.clone(), running.anns.clone());
+        against::calls::run(&running, &mut terms, &mut anns)
+    };
+    let thread = std::thread::Builder::new().stack_size(128 * 1024).spawn(deep).unwrap();
+    let ran = thread.join().unwrap();
+    assert_eq!((ran.number, ran.answers), (0, 1));
+}
+
 /// 46 FORKs in a row before a false TEST would be 2^46 lines of work if each were walked.
 #[test]
 fn forks_that_lead_nowhere_end_at_once() {
