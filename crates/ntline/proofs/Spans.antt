@@ -31,10 +31,12 @@ kind_back n =
     (cond (eqb n 4) Kind.Remark
     (cond (eqb n 5) Kind.Label
     (cond (eqb n 6) Kind.Tag
-    (cond (eqb n 7) Kind.Iri Kind.String))))))
+    (cond (eqb n 7) Kind.Iri
+    (cond (eqb n 8) Kind.String Kind.Nothing)))))))
 
 kind-back : (k : Kind) → kind_back (number_of k) ≡ k
 unfolding kind_back
+kind-back Kind.Nothing = refl
 kind-back Kind.Space = refl
 kind-back Kind.Dot = refl
 kind-back Kind.Hats = refl

@@ -118,15 +118,16 @@ hat_goes : step Hat 0x5E ≡ Hats
 unfolding step
 hat_goes = refl
 
-some_number : (k : Kind) → eqb (number_of k) 0 ≡ false
-some_number Kind.Space = refl
-some_number Kind.Dot = refl
-some_number Kind.Hats = refl
-some_number Kind.Remark = refl
-some_number Kind.Label = refl
-some_number Kind.Tag = refl
-some_number Kind.Iri = refl
-some_number Kind.String = refl
+some_number : (k : Kind) → (k ≡ Kind.Nothing → ⊥) → eqb (number_of k) 0 ≡ false
+some_number Kind.Nothing h = absurd (h refl)
+some_number Kind.Space h = refl
+some_number Kind.Dot h = refl
+some_number Kind.Hats h = refl
+some_number Kind.Remark h = refl
+some_number Kind.Label h = refl
+some_number Kind.Tag h = refl
+some_number Kind.Iri h = refl
+some_number Kind.String h = refl
 
 module _ (b : List ℕ) (at end : ℕ) where
   pub loop_start : at ≤ end → Reached b at end Start 0 at at
@@ -180,13 +181,14 @@ module _ (b : List ℕ) (at end : ℕ) where
 
   -- a terminal may end behind a character more, or none
   pub loop_some : (state new : State) (kind to i value next : ℕ) (k : Kind) → Reached b at end state kind to i → SeenAt b i end value next →
-      new ≡ step state value → number_of k ≡ kind_of new → Reached b at end new (number_of k) next next
-  loop_some state new kind to i value next k l s is h =
-      loop_goes state new kind to i value next (number_of k) (number_of k) next l s is h (sym (rw (some_number k) refl)) (sym (rw (some_number k) refl))
+      new ≡ step state value → number_of k ≡ kind_of new → (k ≡ Kind.Nothing → ⊥) → Reached b at end new (number_of k) next next
+  loop_some state new kind to i value next k l s is h some =
+      loop_goes state new kind to i value next (number_of k) (number_of k) next l s is h (sym (rw (some_number k some) refl)) (sym (rw (some_number k some) refl))
 
-  pub loop_none : (state new : State) (kind to i value next : ℕ) → Reached b at end state kind to i → SeenAt b i end value next →
-      new ≡ step state value → 0 ≡ kind_of new → Reached b at end new kind to next
-  loop_none state new kind to i value next l s is h = loop_goes state new kind to i value next 0 kind to l s is h refl refl
+  pub loop_none : (state new : State) (kind to i value next : ℕ) (k : Kind) → Reached b at end state kind to i → SeenAt b i end value next →
+      new ≡ step state value → number_of k ≡ kind_of new → k ≡ Kind.Nothing → Reached b at end new kind to next
+  loop_none state new kind to i value next k l s is h none =
+      loop_goes state new kind to i value next 0 kind to l s is (ap number_of (sym none) ∙ h) refl refl
 
   pub loop_ends : (state : State) (kind to i : ℕ) → Reached b at end state kind to i → end ≤ i → TokenAt b at end kind to
   loop_ends state kind to i l h =

@@ -1,5 +1,5 @@
 -- What the parts of reading a line promise each other: positions of the bytes for what is left of the line.
-use Rattle.std.specs.Prelude.{◌≡◌, Option, Result, List, ℕ, ◌≤◌}
+use Rattle.std.specs.Prelude.{◌≡◌, Result, List, ℕ, ◌≤◌}
 use Rattle.utf8.specs.Texts.{seen}
 use Rattle.ntline.specs.declared.lexing.State.{State}
 use Rattle.ntline.specs.declared.lexing.Terminal.{Terminal}
@@ -7,7 +7,7 @@ use Rattle.ntline.specs.declared.lines.Span.{Span}
 use Rattle.ntline.specs.declared.lines.Missing.{Missing}
 use Rattle.ntline.specs.declared.lines.Line.{Line}
 use Rattle.ntline.specs.Lexing.{token_is, munched, token_of}
-use Rattle.ntline.specs.Kinds.{found_kind, found_to}
+use Rattle.ntline.specs.Kinds.{number_of}
 use Rattle.ntline.specs.Lines.{Source, spaced, typed_of, literal_of, source_of, object_of, predicate_of, subject_of, SpanOf, SpanFound, LineOf}
 
 -- the terminal at a position
@@ -18,8 +18,8 @@ pub record TokenAt (b : List ℕ) (at end kind to : ℕ) : Type 0 where
   pub rest_is : seen b to end ≡ (token_of (seen b at end)).rest
 
 -- what is found at a position is the terminal there
-abbrev pub FoundAt : List ℕ → ℕ → ℕ → Option Terminal → Type 0
-FoundAt b at end r = TokenAt b at end (found_kind r) (found_to at r)
+abbrev pub FoundAt : List ℕ → ℕ → ℕ → Terminal → Type 0
+FoundAt b at end t = TokenAt b at end (number_of t.kind) t.to
 
 -- behind some characters of the terminal at a position: the state there, the terminal that ended last, and where
 pub record Reached (b : List ℕ) (at end : ℕ) (state : State) (kind to i : ℕ) : Type 0 where

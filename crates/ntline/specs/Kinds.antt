@@ -1,8 +1,7 @@
 -- The terminals and the sorts of terms, as the code names them, by their numbers.
-use Rattle.std.specs.Prelude.{Option, Some, None, ℕ}
+use Rattle.std.specs.Prelude.{ℕ}
 use Rattle.ntline.specs.declared.lexing.Kind.{Kind}
-use Rattle.ntline.specs.declared.lexing.Kind.TheVariants.{Space, Dot, Hats, Remark, Label, Tag, Iri, String}
-use Rattle.ntline.specs.declared.lexing.Terminal.{Terminal}
+use Rattle.ntline.specs.declared.lexing.Kind.TheVariants.{Nothing, Space, Dot, Hats, Remark, Label, Tag, Iri, String}
 use Rattle.ntline.specs.declared.lines.Sort.{Sort}
 use Rattle.ntline.specs.declared.lines.Span.{Span}
 use Rattle.ntline.specs.declared.lines.Missing.{Missing}
@@ -10,6 +9,7 @@ use Rattle.ntline.specs.Lexing.{none, a_space, a_dot, a_hats, a_remark, a_label,
 pub use Rattle.ntline.specs.Lines.{sort_number}
 
 abbrev pub number_of : Kind → ℕ
+number_of Nothing = none
 number_of Space = a_space
 number_of Dot = a_dot
 number_of Hats = a_hats
@@ -18,19 +18,6 @@ number_of Label = a_label
 number_of Tag = a_tag
 number_of Iri = an_iri
 number_of String = a_string
-
-abbrev pub kind_number : Option Kind → ℕ
-kind_number (Some k) = number_of k
-kind_number None = none
-
--- the terminal found, and where it ends: none, and where it would begin, where none is
-abbrev pub found_kind : Option Terminal → ℕ
-found_kind (Some t) = number_of t.kind
-found_kind None = none
-
-abbrev pub found_to : ℕ → Option Terminal → ℕ
-found_to at (Some t) = t.to
-found_to at None = at
 
 abbrev pub span : Sort → ℕ → ℕ → ℕ → Span
 span sort from to tail = record { sort = sort; from = from; to = to; tail = tail }

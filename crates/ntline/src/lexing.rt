@@ -3,7 +3,7 @@
 
 ghost use Rattle.std.specs.Prelude.{◌≡◌, ◌≤◌, ◌<◌, true, length, get_or};
 ghost use Rattle.ntline.specs.Lexing.{schemed, iri_goes, in_iri, quoted_goes, in_quoted, begun, step, kind_of, is_dead_lem};
-ghost use Rattle.ntline.specs.Kinds.{kind_number};
+ghost use Rattle.ntline.specs.Kinds.{number_of};
 ghost use Rattle.ntline.specs.Runs.{RunTo};
 ghost use Rattle.ntline.specs.Inner.{Reached, StopsAt, FoundAt};
 
@@ -41,9 +41,10 @@ pub enum State {
     QuotedEnd,
 }
 
-// A terminal.
+// A terminal, or none: a variant, since an `Option<Terminal>` is answered in memory, not in registers (docs/LOOK-BACK.md, d3).
 #[derive(Clone, Copy, PartialEq, Eq)]
 pub enum Kind {
+    Nothing,
     Space,
     Dot,
     Hats,
@@ -160,19 +161,19 @@ pub fn stepped(s: State, c: u32) -> State
 }
 
 // The terminal that may end here.
-pub fn kind_of(s: State) -> Option<Kind>
-    ensures { kind_number result ≡ kind_of s }
+pub fn kind_of(s: State) -> Kind
+    ensures { number_of result ≡ kind_of s }
 {
     match s {
-        State::White => Some(Kind::Space),
-        State::Dot => Some(Kind::Dot),
-        State::Hats => Some(Kind::Hats),
-        State::Remark => Some(Kind::Remark),
-        State::Label => Some(Kind::Label),
-        State::Letters | State::Alnums => Some(Kind::Tag),
-        State::IriEnd => Some(Kind::Iri),
-        State::QuotedEnd => Some(Kind::String),
-        _ => None,
+        State::White => Kind::Space,
+        State::Dot => Kind::Dot,
+        State::Hats => Kind::Hats,
+        State::Remark => Kind::Remark,
+        State::Label => Kind::Label,
+        State::Letters | State::Alnums => Kind::Tag,
+        State::IriEnd => Kind::Iri,
+        State::QuotedEnd => Kind::String,
+        _ => Kind::Nothing,
     }
 }
 
@@ -182,7 +183,7 @@ fn is_dead(s: State) -> bool
     matches!(s, State::Dead)
 }
 
-// A terminal, and the position behind it.
+// A terminal, and the position behind it; where there is none, the position where it would begin.
 #[derive(Clone, Copy)]
 pub struct Terminal {
     pub kind: Kind,
@@ -202,12 +203,15 @@ pub fn pass(b: &[u8], at: usize, end: usize, s: State) -> usize
 }
 
 // The longest terminal at `at`, a character at a time, where a state is reached behind some of them and none ended yet.
-fn longest_from(b: &[u8], at: usize, end: usize, first: State, from: usize) -> Option<Terminal>
+fn longest_from(b: &[u8], at: usize, end: usize, first: State, from: usize) -> Terminal
     requires { (end ≤ length b.now) × Reached b.now at end first 0 at from }
     ensures { FoundAt b.now at end result }
 {
     let mut state = first;
-    let mut last = None;
+    let mut last = Terminal {
+        kind: Kind::Nothing,
+        to: at,
+    };
     let mut i = from;
     while i < end {
         let c = see(b, i, end);
@@ -215,8 +219,9 @@ fn longest_from(b: &[u8], at: usize, end: usize, first: State, from: usize) -> O
         if is_dead(state) {
             return last;
         }
-        if let Some(kind) = kind_of(state) {
-            last = Some(Terminal { kind, to: c.next });
+        let kind = kind_of(state);
+        if kind != Kind::Nothing {
+            last = Terminal { kind, to: c.next };
         }
         i = pass(b, c.next, end, state);
     }
@@ -224,7 +229,7 @@ fn longest_from(b: &[u8], at: usize, end: usize, first: State, from: usize) -> O
 }
 
 // The longest terminal at a position.
-fn longest(b: &[u8], at: usize, end: usize) -> Option<Terminal>
+fn longest(b: &[u8], at: usize, end: usize) -> Terminal
     requires { (at ≤ end) × (end ≤ length b.now) }
     ensures { FoundAt b.now at end result }
 {
@@ -251,7 +256,7 @@ fn stops(s: State, b: &[u8], at: usize, end: usize) -> bool
 }
 
 // The terminal at a '<': most IRIs are all of plain bytes.
-fn iri_token(b: &[u8], at: usize, end: usize) -> Option<Terminal>
+fn iri_token(b: &[u8], at: usize, end: usize) -> Terminal
     requires { (at < end) × (end ≤ length b.now) × (get_or b.now at 0 ≡ 0x3C) }
     ensures { FoundAt b.now at end result }
 {
@@ -262,31 +267,31 @@ fn iri_token(b: &[u8], at: usize, end: usize) -> Option<Terminal>
     }
     let to = plain_run(b, behind, end, false);
     if is_byte(b, to, end, b'>') {
-        return Some(Terminal {
+        return Terminal {
             kind: Kind::Iri,
             to: to + 1,
-        });
+        };
     }
     longest_from(b, at, end, State::Iri(2, 0, 0), to)
 }
 
 // The terminal at a quote: many strings are all of plain bytes.
-fn string_token(b: &[u8], at: usize, end: usize) -> Option<Terminal>
+fn string_token(b: &[u8], at: usize, end: usize) -> Terminal
     requires { (at < end) × (end ≤ length b.now) × (get_or b.now at 0 ≡ 0x22) }
     ensures { FoundAt b.now at end result }
 {
     let to = plain_run(b, at + 1, end, true);
     if is_byte(b, to, end, b'"') {
-        return Some(Terminal {
+        return Terminal {
             kind: Kind::String,
             to: to + 1,
-        });
+        };
     }
     longest_from(b, at, end, State::Quoted(0, 0), to)
 }
 
 // The terminal at a '_': most labels are all of bytes below 0x80.
-fn label_token(b: &[u8], at: usize, end: usize) -> Option<Terminal>
+fn label_token(b: &[u8], at: usize, end: usize) -> Terminal
     requires { (at < end) × (end ≤ length b.now) × (get_or b.now at 0 ≡ 0x5F) }
     ensures { FoundAt b.now at end result }
 {
@@ -298,14 +303,14 @@ fn label_token(b: &[u8], at: usize, end: usize) -> Option<Terminal>
     if to <= from || !is_label_start(u32::from(b[from])) || !stops(State::Label, b, to, end) {
         return longest(b, at, end);
     }
-    Some(Terminal {
+    Terminal {
         kind: Kind::Label,
         to,
-    })
+    }
 }
 
 // The terminal at an '@': most tags are letters alone.
-fn tag_token(b: &[u8], at: usize, end: usize) -> Option<Terminal>
+fn tag_token(b: &[u8], at: usize, end: usize) -> Terminal
     requires { (at < end) × (end ≤ length b.now) × (get_or b.now at 0 ≡ 0x40) }
     ensures { FoundAt b.now at end result }
 {
@@ -314,14 +319,14 @@ fn tag_token(b: &[u8], at: usize, end: usize) -> Option<Terminal>
     if to <= from || !stops(State::Letters, b, to, end) {
         return longest(b, at, end);
     }
-    Some(Terminal {
+    Terminal {
         kind: Kind::Tag,
         to,
-    })
+    }
 }
 
 // The longest terminal at a position.
-pub fn token(b: &[u8], at: usize, end: usize) -> Option<Terminal>
+pub fn token(b: &[u8], at: usize, end: usize) -> Terminal
     requires { (at ≤ end) × (end ≤ length b.now) }
     ensures { FoundAt b.now at end result }
 {
@@ -333,14 +338,14 @@ pub fn token(b: &[u8], at: usize, end: usize) -> Option<Terminal>
         b'"' => string_token(b, at, end),
         b'_' => label_token(b, at, end),
         b'@' => tag_token(b, at, end),
-        b'.' => Some(Terminal {
+        b'.' => Terminal {
             kind: Kind::Dot,
             to: at + 1,
-        }),
-        b'^' if is_byte(b, at + 1, end, b'^') => Some(Terminal {
+        },
+        b'^' if is_byte(b, at + 1, end, b'^') => Terminal {
             kind: Kind::Hats,
             to: at + 2,
-        }),
+        },
         _ => longest(b, at, end),
     }
 }

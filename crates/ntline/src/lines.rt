@@ -102,13 +102,7 @@ fn typed(b: &[u8], from: usize, to: usize, at: usize, end: usize) -> Result<Span
     ensures { TypedAt b.now from to at end result }
 {
     let behind = spaced(b, at, end);
-    let Some(t) = token(b, behind, end) else {
-        return Err(Missing {
-            from,
-            to,
-            tail: behind,
-        });
-    };
+    let t = token(b, behind, end);
     match t.kind {
         Kind::Iri => Ok(literal_term(from, to, t.to)),
         _ => Err(Missing {
@@ -125,14 +119,11 @@ fn literal(b: &[u8], from: usize, to: usize, end: usize) -> Result<Span, Missing
     ensures { LiteralAt b.now from to end result }
 {
     let behind = spaced(b, to, end);
-    let plain = Ok(literal_term(from, to, to));
-    let Some(t) = token(b, behind, end) else {
-        return plain;
-    };
+    let t = token(b, behind, end);
     match t.kind {
         Kind::Tag => Ok(literal_term(from, to, t.to)),
         Kind::Hats => typed(b, from, to, t.to, end),
-        _ => plain,
+        _ => Ok(literal_term(from, to, to)),
     }
 }
 
@@ -142,9 +133,7 @@ pub fn term(b: &[u8], at: usize, end: usize) -> Result<Span, Missing>
     ensures { TermAt b.now at end result }
 {
     let from = spaced(b, at, end);
-    let Some(t) = token(b, from, end) else {
-        return Err(no_term(from));
-    };
+    let t = token(b, from, end);
     match t.kind {
         Kind::Iri => Ok(short_term(Sort::Name, from, t.to)),
         Kind::Label => Ok(short_term(Sort::Blank, from, t.to)),
@@ -159,9 +148,7 @@ fn dotted(b: &[u8], at: usize, end: usize) -> bool
     ensures { result ≡ is_dotted (seen b.now at end) }
 {
     let from = spaced(b, at, end);
-    let Some(t) = token(b, from, end) else {
-        return false;
-    };
+    let t = token(b, from, end);
     match t.kind {
         Kind::Dot => over(b, t.to, end),
         _ => false,

@@ -7,11 +7,9 @@ use native.Mathlib.Omega.{arith}
 use lib.Dec.{eqb}
 use borrow.Author.Tests.{eqb-true, eq-eqb}
 use denote.Enum.Bare.{sameb}
-use Rattle.std.specs.Prelude.{Option, Some, None}
-use Rattle.std.specs.Option.{option_eq}
 use Rattle.ntline.specs.contracts.lexing.Kind.{the_type}
 use Rattle.ntline.specs.declared.lexing.Kind.{Kind}
-use Rattle.ntline.specs.Kinds.{kind_number}
+use Rattle.ntline.specs.Kinds.{number_of}
 use Rattle.ground.specs.Lists.{All}
 use Rattle.ground.proofs.Bools.{same_test}
 use Rattle.utf8.specs.Characters.{text_bytes}
@@ -203,24 +201,24 @@ legal-none sort text large = which (is_legal_text sort text) refl
     which false e = e
 
 -- a terminal as it is tested
-pub is_iri : (r : Option Kind) → option_eq (sameb the_type) r (Some Kind.Iri) ≡ eqb (kind_number r) 7
-is_iri None = refl
-is_iri (Some Kind.Space) = refl
-is_iri (Some Kind.Dot) = refl
-is_iri (Some Kind.Hats) = refl
-is_iri (Some Kind.Remark) = refl
-is_iri (Some Kind.Label) = refl
-is_iri (Some Kind.Tag) = refl
-is_iri (Some Kind.Iri) = refl
-is_iri (Some Kind.String) = refl
+pub is_iri : (k : Kind) → sameb the_type k Kind.Iri ≡ eqb (number_of k) 7
+is_iri Kind.Nothing = refl
+is_iri Kind.Space = refl
+is_iri Kind.Dot = refl
+is_iri Kind.Hats = refl
+is_iri Kind.Remark = refl
+is_iri Kind.Label = refl
+is_iri Kind.Tag = refl
+is_iri Kind.Iri = refl
+is_iri Kind.String = refl
 
-pub is_label : (r : Option Kind) → option_eq (sameb the_type) r (Some Kind.Label) ≡ eqb (kind_number r) 5
-is_label None = refl
-is_label (Some Kind.Space) = refl
-is_label (Some Kind.Dot) = refl
-is_label (Some Kind.Hats) = refl
-is_label (Some Kind.Remark) = refl
-is_label (Some Kind.Label) = refl
-is_label (Some Kind.Tag) = refl
-is_label (Some Kind.Iri) = refl
-is_label (Some Kind.String) = refl
+pub is_label : (k : Kind) → sameb the_type k Kind.Label ≡ eqb (number_of k) 5
+is_label Kind.Nothing = refl
+is_label Kind.Space = refl
+is_label Kind.Dot = refl
+is_label Kind.Hats = refl
+is_label Kind.Remark = refl
+is_label Kind.Label = refl
+is_label Kind.Tag = refl
+is_label Kind.Iri = refl
+is_label Kind.String = refl

@@ -47,7 +47,7 @@ fn legal_name(text: &[u8], from: usize, to: usize) -> bool
         return true;
     }
     let inside = state_behind(text, from, to, State::Iri(0, 0, 0));
-    kind_of(stepped(inside, 0x3E)) == Some(Kind::Iri)
+    kind_of(stepped(inside, 0x3E)) == Kind::Iri
 }
 
 // Whether the bytes are a label below 0x80 without a dot.
@@ -68,7 +68,7 @@ fn legal_blank(text: &[u8], from: usize, to: usize) -> bool
     if plain_label(text, from, to) {
         return true;
     }
-    kind_of(state_behind(text, from, to, State::Colon)) == Some(Kind::Label)
+    kind_of(state_behind(text, from, to, State::Colon)) == Kind::Label
 }
 
 fn legal_literal(text: &[u8], from: usize, to: usize) -> bool

@@ -60,7 +60,26 @@ pub fn char_at(b: &[u8], at: usize, end: usize) -> Option<Character>
     decode::four(x, y, z, u32::from(b[at + 3]))
 }
 
-// The first character of the bytes from `at` up to `end`, and where the next begins; BAD, and `end`, where none is there.
+// What `see` gives of any character: apart, so that the loops that call `see` do not carry it.
+fn see_long(b: &[u8], at: usize, end: usize) -> Seen
+    requires { (at < end) × (end ≤ length b.now) }
+    ensures { SeenAt b.now at end result.value result.next }
+{
+    match char_at(b, at, end) {
+        Some(c) => Seen {
+            value: c.number,
+            next: at + c.size,
+        },
+        None => Seen {
+            value: BAD,
+            next: end,
+        },
+    }
+}
+
+// The first character of the bytes from `at` up to `end`, and where the next begins; BAD, and `end`, where none is there. Laid into
+// the loops that call it: most bytes are below 0x80, and a call for each would be most of the work.
+#[inline(always)]
 pub fn see(b: &[u8], at: usize, end: usize) -> Seen
     requires { (at < end) × (end ≤ length b.now) }
     ensures { SeenAt b.now at end result.value result.next }
@@ -72,16 +91,7 @@ pub fn see(b: &[u8], at: usize, end: usize) -> Seen
             next: at + 1,
         };
     }
-    match char_at(b, at, end) {
-        Some(c) => Seen {
-            value: c.number,
-            next: at + c.size,
-        },
-        None => Seen {
-            value: BAD,
-            next: end,
-        },
-    }
+    see_long(b, at, end)
 }
 
 // Whether the bytes from `at` up to `end` are UTF-8.

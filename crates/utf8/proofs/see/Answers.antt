@@ -1,8 +1,8 @@
--- A byte below 0x80, a character, or none.
+-- A byte below 0x80, or whatever else stands there.
 use mathlib.Core.Path.{sym}
 use native.Mathlib.Omega.{arith}
 use Rattle.utf8.proofs.Standing.{at_one}
-use Rattle.utf8.proofs.Seeing.{seen-whole, seen-bad, whole-fits}
+use Rattle.utf8.proofs.Seeing.{seen-whole}
 use Rattle.utf8.proofs.see.Goals as goal
 
 pub bounds-b-at : goal.bounds-b-at
@@ -18,21 +18,3 @@ returns-then-x-lt128 c =
     let the-if1 = c.if-x-lt128 in
     seen-whole the-args.b.now the-args.at the-args.end the-pre.0 the-pre.1 the-from.result 1
     (sym (at_one the-args.b.now the-args.at the-args.end the-pre.1 the-pre.0 the-from.result the-from.ensures the-if1.true))
-
-pub overflow_add-result-in-Some : goal.overflow_add-result-in-Some
-overflow_add-result-in-Some c =
-    let the-args = c.args in
-    let the-pre = c.requires in
-    omega (arith, whole-fits the-args.b.now the-args.at the-args.end the-pre.0 the-pre.1 _ _ (sym c.in-Some.ensures))
-
-pub returns-in-Some : goal.returns-in-Some
-returns-in-Some c =
-    let the-args = c.args in
-    let the-pre = c.requires in
-    seen-whole the-args.b.now the-args.at the-args.end the-pre.0 the-pre.1 _ _ (sym c.in-Some.ensures)
-
-pub returns-in-None : goal.returns-in-None
-returns-in-None c =
-    let the-args = c.args in
-    let the-pre = c.requires in
-    seen-bad the-args.b.now the-args.at the-args.end the-pre.0 the-pre.1 (sym c.in-None.ensures)

@@ -1,10 +1,12 @@
 -- Step by step.
-use mathlib.Core.Path.{◌∙◌, sym}
-use Rattle.ntline.specs.Kinds.{found_kind, found_to}
+use Rattle.std.proofs.Common.{rules, sym, ◌∙◌}
+use denote.Enum.Bare.{differs_true, differs_false}
+use Rattle.ntline.specs.contracts.lexing.Kind.{the_type}
+use Rattle.ntline.specs.Kinds.{number_of}
 use Rattle.ntline.specs.Inner.{Reached}
 use Rattle.ntline.proofs.Tokens.{loop_stops, loop_some, loop_none, loop_ends, loop_passes}
 use Rattle.ntline.proofs.lexing.longest_from.Goals as goal
-use Rattle.ntline.proofs.lexing.longest_from.Goals.{in-Some, in_default}
+use Rattle.ntline.proofs.lexing.longest_from.Goals.{then-ne, else-ne}
 
 pub returns-then-is_dead : goal.returns-then-is_dead
 returns-then-is_dead c =
@@ -12,12 +14,14 @@ returns-then-is_dead c =
 
 pub loop-i-preserved : goal.loop-i-preserved
 loop-i-preserved c =
-    let goes : Reached c.args.b.now c.args.at c.args.end c.stepped-state.result (found_kind c.match-kind_of.last) (found_to c.args.at c.match-kind_of.last) c.see-c.result.next
-    = elim c.match-kind_of.branch [
-      | in-Some w ↦
-          rw w.last-is (loop_some c.args.b.now c.args.at c.args.end _ _ _ _ _ _ _ _ c.loop-i.invariant c.see-c.ensures c.stepped-state.ensures w.in-Some.ensures)
-      | in_default w ↦
-          rw w.last-is (loop_none c.args.b.now c.args.at c.args.end _ _ _ _ _ _ _ c.loop-i.invariant c.see-c.ensures c.stepped-state.ensures w.in_default.ensures)
+    let goes : Reached c.args.b.now c.args.at c.args.end c.stepped-state.result (number_of c.if-ne.last.kind) c.if-ne.last.to c.see-c.result.next
+    = elim c.if-ne.branch [
+      | then-ne w ↦
+          rw w.last-is (loop_some c.args.b.now c.args.at c.args.end _ _ _ _ _ _ _ _ c.loop-i.invariant c.see-c.ensures c.stepped-state.ensures c.kind_of-kind.ensures
+          (differs_true the_type _ _ (sym w.if-ne.ensures)))
+      | else-ne w ↦
+          rw w.last-is (loop_none c.args.b.now c.args.at c.args.end _ _ _ _ _ _ _ _ c.loop-i.invariant c.see-c.ensures c.stepped-state.ensures c.kind_of-kind.ensures
+          (differs_false the_type (search rules) _ _ (sym w.if-ne.ensures)))
     ] in
     loop_passes c.args.b.now c.args.at c.args.end _ _ _ _ _ c.requires.0 goes c.pass-i.ensures
 
