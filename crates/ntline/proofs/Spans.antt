@@ -182,9 +182,11 @@ module _ (b : List ℕ) where
         }
 
     -- a string, and what its literal is
+    pub literal-there : kind ≡ 8 → source_of (seen b at end) ≡ literal_of (seen b from end) (seen b to end)
+    literal-there e = rw (source-string (seen b at end) (there 8 e), ← s.rest_is, ← t.rest_is) refl
+
     pub term-string : (r : Result Span Missing) → kind ≡ 8 → SpanFound b end r (literal_of (seen b from end) (seen b to end)) → SpanFound b end r (source_of (seen b at end))
-    term-string r e x =
-        rw (source-string (seen b at end) (there 8 e), ← s.rest_is, ← t.rest_is) x
+    term-string r e x = rw (literal-there e) x
 
   -- behind a string that lies from one position to another: white space, and a terminal
   module _ (first to end from kind behind : ℕ) (low : first ≤ to) (s : SpacedAt b to end from) (t : TokenAt b from end kind behind) where
@@ -201,10 +203,13 @@ module _ (b : List ℕ) where
           tail_is = rest-there to end from kind behind s t ∙ ap (λ (x : Source). x.tail) (sym is);
         }
 
+    pub typed-there : kind ≡ 3 → literal_of (seen b first end) (seen b to end) ≡ typed_of (seen b first end) (seen b to end) (seen b behind end)
+    typed-there e =
+        rw (literal-hats (seen b first end) (seen b to end) (there to end from kind behind s t 3 e), ← rest-there to end from kind behind s t) refl
+
     pub literal-typed : (r : Result Span Missing) → kind ≡ 3 → SpanFound b end r (typed_of (seen b first end) (seen b to end) (seen b behind end)) →
         SpanFound b end r (literal_of (seen b first end) (seen b to end))
-    literal-typed r e x =
-        rw (literal-hats (seen b first end) (seen b to end) (there to end from kind behind s t 3 e), ← rest-there to end from kind behind s t) x
+    literal-typed r e x = rw (typed-there e) x
 
     pub literal-plain : to ≤ end → (kind ≡ 6 → ⊥) → (kind ≡ 3 → ⊥) → SpanOf b end (span Literal first to to) (literal_of (seen b first end) (seen b to end))
     literal-plain high x y =

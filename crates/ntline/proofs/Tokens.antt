@@ -129,6 +129,10 @@ some_number Kind.Tag h = refl
 some_number Kind.Iri h = refl
 some_number Kind.String h = refl
 
+-- where there is a terminal, its own place is the one found
+pub some-to : (k : Kind) (at to : ℕ) → (k ≡ Kind.Nothing → ⊥) → to ≡ cond (eqb (number_of k) 0) at to
+some-to k at to h = rw (some_number k h) refl
+
 module _ (b : List ℕ) (at end : ℕ) where
   pub loop_start : at ≤ end → Reached b at end Start 0 at at
   unfolding token_of

@@ -7,7 +7,7 @@ use Rattle.ntline.specs.declared.lines.Span.{Span}
 use Rattle.ntline.specs.declared.lines.Missing.{Missing}
 use Rattle.ntline.specs.declared.lines.Line.{Line}
 use Rattle.ntline.specs.Lexing.{token_is, munched, token_of}
-use Rattle.ntline.specs.Kinds.{number_of}
+use Rattle.ntline.specs.Kinds.{number_of, found_to}
 use Rattle.ntline.specs.Lines.{Source, spaced, typed_of, literal_of, source_of, object_of, predicate_of, subject_of, SpanOf, SpanFound, LineOf}
 
 -- the terminal at a position
@@ -17,9 +17,9 @@ pub record TokenAt (b : List ℕ) (at end kind to : ℕ) : Type 0 where
   pub kind_is : kind ≡ (token_of (seen b at end)).kind
   pub rest_is : seen b to end ≡ (token_of (seen b at end)).rest
 
--- what is found at a position is the terminal there
+-- what is found at a position is the terminal there; its place is that position where there is none
 abbrev pub FoundAt : List ℕ → ℕ → ℕ → Terminal → Type 0
-FoundAt b at end t = TokenAt b at end (number_of t.kind) t.to
+FoundAt b at end t = TokenAt b at end (number_of t.kind) t.to × (t.to ≡ found_to at t)
 
 -- behind some characters of the terminal at a position: the state there, the terminal that ended last, and where
 pub record Reached (b : List ℕ) (at end : ℕ) (state : State) (kind to i : ℕ) : Type 0 where

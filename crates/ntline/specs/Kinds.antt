@@ -1,7 +1,8 @@
 -- The terminals and the sorts of terms, as the code names them, by their numbers.
-use Rattle.std.specs.Prelude.{ℕ}
+use Rattle.std.specs.Prelude.{cond, eqb, ℕ}
 use Rattle.ntline.specs.declared.lexing.Kind.{Kind}
 use Rattle.ntline.specs.declared.lexing.Kind.TheVariants.{Nothing, Space, Dot, Hats, Remark, Label, Tag, Iri, String}
+use Rattle.ntline.specs.declared.lexing.Terminal.{Terminal}
 use Rattle.ntline.specs.declared.lines.Sort.{Sort}
 use Rattle.ntline.specs.declared.lines.Span.{Span}
 use Rattle.ntline.specs.declared.lines.Missing.{Missing}
@@ -18,6 +19,10 @@ number_of Label = a_label
 number_of Tag = a_tag
 number_of Iri = an_iri
 number_of String = a_string
+
+-- where the terminal found ends: where it would begin, where none is
+abbrev pub found_to : ℕ → Terminal → ℕ
+found_to at t = cond (eqb (number_of t.kind) none) at t.to
 
 abbrev pub span : Sort → ℕ → ℕ → ℕ → Span
 span sort from to tail = record { sort = sort; from = from; to = to; tail = tail }

@@ -29,7 +29,7 @@ use Rattle.plans.specs.Plans.{subject_of_each, Met, Obeyed}
 use Rattle.plans.proofs.Meeting.{met-lower, met-bottom}
 use Rattle.walks.specs.declared.Stopped.{Stopped}
 use Rattle.walks.specs.Rising.{Risen, Drew}
-use Rattle.walks.specs.Walks.{OfOne, Raised, Planned, Walked, Begins, Meeting, RowMet, MeetingDrawn, Answered, RaisedIn, WalkedIn, MeetingDrawnIn}
+use Rattle.walks.specs.Walks.{OfOne, Raised, Planned, Walked, Begins, Meeting, RowMet, MeetingDrawn, Answered, WalkedIn, MeetingDrawnIn}
 use Rattle.walks.proofs.Rising.{drew-none, Passed, drew-so}
 use Rattle.walks.proofs.Neighbours.{row-value, row_below, none_before, all_partners}
 
@@ -53,7 +53,8 @@ pub walked_off : {R : Rules} {kind a : ℕ} {l : Lanes} {n : ℕ} → Planned R 
 walked_off c = drew-none c.sound (record { obeyed = tt })
 
 -- what it gives alone
-pub alone-walked : (R : Rules) (s p o a : ℕ) (t u : Table) (x : Result Done Stopped) → RaisedIn R (row s p o a) t u x → WalkedIn R (Alone s p o) a t u x
+pub alone-walked : (R : Rules) (s p o a : ℕ) (t u : Table) (x : Result Done Stopped)
+    → Answered (λ full changed. Raised R (kind_number t.kind) (row s p o a) (lanes_in t) t.count (lanes_in u) full changed u.count) x → WalkedIn R (Alone s p o) a t u x
 alone-walked R s p o a t u x w =
     let P = λ (full changed : Bool). Raised R (kind_number t.kind) (row s p o a) (lanes_in t) t.count (lanes_in u) full changed u.count in
     let Q = λ (full changed : Bool). Walked R (kind_number t.kind) (Alone s p o) a (lanes_in t) t.count (lanes_in u) full changed u.count in

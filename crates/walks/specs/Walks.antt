@@ -91,8 +91,14 @@ abbrev pub Answered : (Bool → Bool → Type 0) → Result Done Stopped → Typ
 Answered P (Ok d) = P false d.changed
 Answered P (Err e) = P true e.changed
 
+-- where a row found no room, nothing changed before
+abbrev pub FullAtOnce : Result Done Stopped → Type 0
+FullAtOnce (Ok d) = Unit {0}
+FullAtOnce (Err e) = e.changed ≡ false
+
 abbrev pub RaisedIn : Rules → Row → Table → Table → Result Done Stopped → Type 0
-RaisedIn R r t u = Answered (λ full changed. Raised R (kind_number t.kind) r (lanes_in t) t.count (lanes_in u) full changed u.count)
+RaisedIn R r t u x =
+    Answered (λ full changed. Raised R (kind_number t.kind) r (lanes_in t) t.count (lanes_in u) full changed u.count) x × FullAtOnce x
 
 abbrev pub PlannedIn : Rules → Plan → ℕ → Table → Type 0
 PlannedIn R plan a t = Planned R (kind_number t.kind) plan a (lanes_in t) t.count

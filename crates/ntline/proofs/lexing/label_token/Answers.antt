@@ -10,6 +10,8 @@ label_run-to-requires c = let colon = c.if-not-is_byte.ensures refl in (omega ar
 
 pub returns : goal.returns
 returns c =
-    let colon = c.if-not-is_byte.ensures refl in
-    label-token c.args.b.now c.args.at c.args.end c.requires.1 c.requires.0 _ c.requires.2 colon.0 colon.1 c.label_run-to.ensures c.if-to-from.false
-    (ap is_label_start_lem (sym c.from.ensures) ∙ sym c.if-not-is_label_start.ensures) (c.if-not-stops.ensures refl)
+    let colon = c.if-not-is_byte.ensures refl in (
+      label-token c.args.b.now c.args.at c.args.end c.requires.1 c.requires.0 _ c.requires.2 colon.0 colon.1 c.label_run-to.ensures c.if-to-from.false
+          (ap is_label_start_lem (sym c.from.ensures) ∙ sym c.if-not-is_label_start.ensures) (c.if-not-stops.ensures refl),
+      refl,
+    )
